@@ -53,6 +53,9 @@
 extern "C" {
 #endif
 
+/* The version, as major * 10000 + minor * 100 + patch: of this header, and (navd_version) of the library. */
+#define NAVD_VERSION 100u
+
 #define NAVD_OK 0u            /* all was done */
 #define NAVD_NO_MEMORY 1u     /* memory was refused; nothing that was there is lost */
 #define NAVD_EMPTY 2u         /* the handle holds nothing; nothing was done */
@@ -72,6 +75,9 @@ extern "C" {
 #define NAVD_FOREIGN 16u      /* the job is of a ground that is another there; nothing was done */
 #define NAVD_BUSY 17u         /* the job's handle holds a job; nothing was done */
 #define NAVD_TOO_MANY_SPANS 18u /* the triangles give more than 2000000 spans, the most that a field can have */
+#define NAVD_LIMIT 20u          /* a limit ended the search: a way there, if there is one, costs no less than `seen` */
+#define NAVD_CUT 21u            /* the kept path leads on in part */
+#define NAVD_NO_PLACE 22u       /* no place is in reach, or the place is none of the mesh */
 
 /* A handle of a level. Zeroed, it holds nothing: navd_level level = {0}; */
 typedef struct {
@@ -107,6 +113,21 @@ typedef struct {
     uint32_t cx, cz, r, y0, y1;
 } navd_cylinder;
 
+/* A prism: how many corners its base has, 3 to 6, and these, counterclockwise and strictly convex, each part -16384 to 81920; those behind them are
+ * not read. Where it stops agents it covers each column with which it shares area, so that nothing leaks through a thin door; where it gives an area
+ * it covers the columns whose middles it holds; in both where a floor lies at y0 to y1, 0 to 8191, which do not run backwards. */
+typedef struct {
+    uint32_t corners;
+    navd_point point[6];
+    uint32_t y0, y1;
+} navd_prism;
+
+/* A disc: a centre, each part -16384 to 81920, and a radius, 1 to 16384, in sixteenths of a cell. It covers cells as a prism does. */
+typedef struct {
+    int32_t x, z;
+    uint32_t r, y0, y1;
+} navd_disc;
+
 /* From where to where: points from -65536 to 65536, each with a height that says in which storey; a ray has no height at its end. */
 typedef struct {
     navd_point from;
@@ -141,8 +162,8 @@ typedef struct {
     uint32_t area, low, high;
 } navd_face;
 
-/* An obstacle: its number, the area that it gives, or 0 where it stops agents, and what it is: a block (0) or a cylinder (1). The numbers of the
- * other one are 0. */
+/* An obstacle: its number, the area that it gives, or 0 where it stops agents, and what it is: a block (0), a cylinder (1), a prism (2) or a
+ * disc (3). The numbers of what it is not are 0; those of prisms and discs are not told. */
 typedef struct {
     uint32_t number, area, kind;
     navd_block block;
@@ -211,6 +232,61 @@ typedef struct {
     int64_t num, den;
 } navd_ray;
 
+/* A way through a filter. The host writes `way`, the areas that may be entered, and what ends the search: nothing is looked at where the way there and
+ * the straight rest together cost more than most_cost (UINT64_MAX: no limit), nor after most_polygons polygons (SIZE_MAX: no limit). The call leaves
+ * what the way costs, or `seen`, the polygon in which it begins, and how many links and turns it has. */
+typedef struct {
+    navd_way way;
+    uint64_t areas, most_cost;
+    size_t most_polygons;
+    uint64_t cost, seen;
+    navd_polygon first;
+    size_t links, turns;
+} navd_plan;
+
+/* A path that is kept. The host writes where its walker is and its goal, the polygon in which it was last, and the areas that may be entered; the call
+ * leaves the polygon in which the path begins now, what the links that lead on cost, and how many links and turns there are. */
+typedef struct {
+    navd_way way;
+    navd_polygon first;
+    uint64_t areas, cost;
+    size_t links, turns;
+} navd_kept;
+
+/* A flood. The host writes the place in which it begins, the areas that may be entered, and up to which cost it reaches; the call leaves how many
+ * polygons it has. */
+typedef struct {
+    navd_point at;
+    uint32_t y;
+    uint64_t areas, most_cost;
+    size_t polygons;
+} navd_flood;
+
+/* A polygon of a flood, what a cheapest walk to it costs, and the place in the array of the polygon before it on such a walk; that of the first is 0. */
+typedef struct {
+    navd_polygon polygon;
+    uint64_t cost;
+    size_t via;
+} navd_reached;
+
+/* A place on the mesh: a polygon, a point that it holds, and the floor there, in height units. It is the host's own. Once the view shows another mesh,
+ * navd_view_is_place tells whether it is still a place. */
+typedef struct {
+    navd_polygon polygon;
+    navd_point at;
+    uint32_t y;
+} navd_place;
+
+/* What is looked for: allowed areas, bit a for area a (UINT64_MAX: all areas), a point and a height; how far a place may be in the plane, in sixteenths
+ * of a cell, below 262144; how far its floor may lie down and up from y, in height units, below 16384; and how far in the plane a height unit counts
+ * that is beyond the agent's climb, in sixteenths, below 65536: with the weight 0 the nearest place in the plane is looked for, with
+ * 16 * cell height / cell size the nearest in space, and with more than the reach the nearest in height. */
+typedef struct {
+    uint64_t areas;
+    navd_point at;
+    uint32_t y, reach, down, up, weight;
+} navd_near;
+
 /* The first line of a text that fails, from 1, and the kind of its fault, as docs/FORMATS.md has them. */
 typedef struct {
     uint32_t line, kind;
@@ -226,6 +302,10 @@ typedef struct {
 typedef struct {
     uint32_t published, tiles;
 } navd_shown;
+
+/* The version of the library: a host that loads it while it runs compares it with NAVD_VERSION. It takes no handle, and may be called at any
+ * time. */
+uint32_t navd_version(void);
 
 /* == A level == */
 
@@ -251,6 +331,8 @@ void navd_close(navd_level *level);
  * NAVD_OK. NAVD_TOO_MANY. NAVD_OUT_OF_RANGE: before all others. NAVD_EMPTY. NAVD_HISTORY_FULL. */
 uint32_t navd_add_block(navd_level *level, const navd_block *block, uint32_t area, uint32_t *entry);
 uint32_t navd_add_cylinder(navd_level *level, const navd_cylinder *cylinder, uint32_t area, uint32_t *entry);
+uint32_t navd_add_prism(navd_level *level, const navd_prism *prism, uint32_t area, uint32_t *entry);
+uint32_t navd_add_disc(navd_level *level, const navd_disc *disc, uint32_t area, uint32_t *entry);
 
 /* Removes the obstacle with a number.
  * NAVD_OK. NAVD_DEAD. NAVD_EMPTY. NAVD_HISTORY_FULL. */
@@ -416,6 +498,51 @@ uint32_t navd_view_march(navd_view *view, navd_walker *walker, uint32_t length, 
 uint32_t navd_view_polygons(navd_view *view, uint32_t tile, navd_face *polygons, size_t room, size_t *count);
 uint32_t navd_view_inner_links(navd_view *view, uint32_t tile, navd_link *links, size_t room, size_t *count);
 uint32_t navd_view_border_links(navd_view *view, uint32_t tile, navd_link *links, size_t room, size_t *count);
+
+/* == Further questions about ways, asked of what a view shows ==
+ * They change nothing. Each is asked through a filter: polygons of area a are entered where bit a of `areas` is set (UINT64_MAX: all areas); the
+ * polygon in which one stands is not entered, whatever its area is. `costs` are 64 numbers by area, each 1 to 1000, for this question alone;
+ * where there are 0 of them, the costs are those of the view. */
+
+/* A cheapest walk through a filter and a taut line through its portals, told as a path is. With all areas, no costs and no limits its cost, its
+ * first polygon and the way in which the call ends are those of navd_view_find_path.
+ * NAVD_OK. NAVD_LIMIT: each walk that leads there through the filter costs at least plan->seen, which alone is told. NAVD_NO_START, NAVD_NO_GOAL.
+ * NAVD_NO_PATH: no walk leads there through the filter. NAVD_OUT_OF_RANGE: before all others. NAVD_EMPTY.
+ * NAVD_NO_MEMORY. */
+uint32_t navd_view_plan(navd_view *view, navd_plan *plan, const uint32_t *costs, size_t costs_count, navd_link *links, size_t links_room,
+                        navd_turn *turns, size_t turns_room);
+
+/* Whether a path still leads on, without a search. links[0] to links[count - 1] are its links from the walker on, fewer than 4294967295, as they were
+ * told. Each leads on by a link through its portal, and as itself where that is there still. It begins in kept->first where that polygon holds the
+ * place and has a link through the first portal, else in that of those which do that is nearest in height, the first of them by tile and place. The
+ * links that lead on now are laid over the first of `links`, and kept->links tells how many they are.
+ * NAVD_OK: all do, into a polygon that holds the goal; the turns are those of a taut line from the walker to the goal. Cheaper ways may be there.
+ * NAVD_CUT: those do, and no turn is told; where they are all, the goal has left the last polygon. NAVD_NO_START: it begins in no polygon.
+ * NAVD_OUT_OF_RANGE: before all others. NAVD_EMPTY. NAVD_NO_MEMORY. In all but the first two nothing is told. */
+uint32_t navd_view_check_path(navd_view *view, navd_kept *kept, const uint32_t *costs, size_t costs_count, navd_link *links, size_t count,
+                              navd_turn *turns, size_t turns_room);
+
+/* The polygons to which an allowed walk leads that costs at most flood->most_cost, each once, by rising costs; the first is that of the place.
+ * NAVD_OK. NAVD_NO_START. NAVD_OUT_OF_RANGE: before all others. NAVD_EMPTY. NAVD_NO_MEMORY. */
+uint32_t navd_view_flood(navd_view *view, navd_flood *flood, const uint32_t *costs, size_t costs_count, navd_reached *reached, size_t room);
+
+/* == Questions about places, asked of what a view shows ==
+ * They change nothing. The floor of a polygon at a point that it holds is that of the polygon's cell there; where the polygon strays off its cells, that
+ * of the nearest of them. On a border of cells each of their floors makes a place. */
+
+/* The nearest place of those in reach that have a cell of their polygon below the point. Distances are squared and added: that in the plane, and what
+ * the floor is further from y than the agent climbs, times the weight. Where two are alike the one comes first whose floor is nearer to y, then by tile,
+ * index, x, z and floor. Walls do not count.
+ * NAVD_OK. NAVD_NO_PLACE: none is in reach. NAVD_OUT_OF_RANGE: before all others. NAVD_EMPTY. NAVD_NO_MEMORY. */
+uint32_t navd_view_nearest(navd_view *view, const navd_near *near, navd_place *place);
+
+/* The highest floor at place->at in place->polygon, left at place->y, whatever that was.
+ * NAVD_OK. NAVD_NO_PLACE: the polygon does not hold the point, or there is none. NAVD_OUT_OF_RANGE: before all others. NAVD_EMPTY. NAVD_NO_MEMORY. */
+uint32_t navd_view_height(navd_view *view, navd_place *place);
+
+/* Whether it is a place of what the view shows.
+ * NAVD_OK: it is. NAVD_NO_PLACE. NAVD_OUT_OF_RANGE: before all others. NAVD_EMPTY. NAVD_NO_MEMORY. */
+uint32_t navd_view_is_place(navd_view *view, const navd_place *place);
 
 #ifdef __cplusplus
 }

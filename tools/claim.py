@@ -85,6 +85,9 @@ CHAPTERS = [
      "mesh_types/ContourMeshes.contour_mesh_of mesh_types/ContourMeshes.parts_mesh mesh_types/Parts mesh_types/Regions "
      "mesh_types/Contours mesh_types/Simplified mesh_types/Ears mesh_types/Rings mesh_types/Choices mesh_types/Merging "
      "mesh_types/Facets mesh_types/Doors mesh_types/DoorRim mesh_types/Crossings mesh_types/Soundness"),
+    ("storeys", False, "Storeys",
+     "The cells of regions and strips with their floors.",
+     "mesh_types/ContourMeshes.part_storeys mesh_types/StripMeshes.strip_storeys mesh_types/Storeys mesh_types/Places"),
     ("workers", False, "Lanes and workers of a play, totals and counts",
      "The numbers of a lane's obstacles, the jobs of workers, equal lists of shapes, the totals of answers and the builds that are "
      "counted.",

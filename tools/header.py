@@ -1,11 +1,11 @@
 #!/usr/bin/env python3
 """Compares the five places that say how a host calls the library, which people write by hand: include/navd.h, the exports and #[repr(C)]
-structs of the library (crates/nav_ffi, crates/nav_handle), hosts/rust/src/sys.rs, hosts/python/navd.py and hosts/csharp/Navd.cs. The linker
-compares names alone. hosts/cpp/navd.hpp includes the header: of it each call and each status number is wanted, and its compiler compares
-the rest.
+structs of the library (crates/nav_ffi, nav_handle, way_handle and place_handle), hosts/rust/src/sys.rs, hosts/python/navd.py and
+hosts/csharp/Navd.cs. The linker compares names alone. hosts/cpp/navd.hpp includes the header: of it each call and each status number is wanted, and its compiler
+compares the rest.
 
 The header is the measure. Each of the others must have the same calls, with the same parameters in the same order, the same structs, field by
-field, and the same status numbers. What a place cannot say is not asked of it:
+field, the same status numbers, and the same version, which the file VERSION has too. What a place cannot say is not asked of it:
 
   - a slice of the library is an address and a count, and the count has no name there; ghost fields and an allocator have no bytes
   - the library has no arrays in structs: fields called first, second and so on stand for one, which is called like its elements
@@ -22,8 +22,8 @@ from types import SimpleNamespace
 from unittest import mock
 
 HEADER, RUST, PYTHON = "include/navd.h", "hosts/rust/src/sys.rs", "hosts/python/navd.py"
-CSHARP, CPP = "hosts/csharp/Navd.cs", "hosts/cpp/navd.hpp"
-LIBRARY = ("crates/nav_ffi/src", "crates/nav_handle/src")
+CSHARP, CPP, VERSION = "hosts/csharp/Navd.cs", "hosts/cpp/navd.hpp", "VERSION"
+LIBRARY = ("crates/nav_ffi/src", "crates/nav_handle/src", "crates/way_handle/src", "crates/place_handle/src")
 C_TYPES = {"uint8_t": "u8", "uint32_t": "u32", "int32_t": "i32", "uint64_t": "u64", "int64_t": "i64", "size_t": "usize", "void": "nothing"}
 CSHARP_TYPES = {"byte": "u8", "uint": "u32", "int": "i32", "ulong": "u64", "long": "i64", "UIntPtr": "usize", "IntPtr": "pointer",
                 "void": "nothing", "Status": "u32"}
@@ -82,7 +82,7 @@ def c_fields(text):
 
 
 def c_parameters(text):
-    for word in parts(HEADER, re.sub(r"\s+", " ", text), ",", r"(const )?(\w+) (\*?)(\w+)"):
+    for word in parts(HEADER, re.sub(r"\s+", " ", "" if text == "void" else text), ",", r"(const )?(\w+) (\*?)(\w+)"):
         yield word[4], c_type(word[2], word[3], word[1])
 
 
@@ -238,7 +238,7 @@ def csharp_fields(text):
 
 def csharp_parameters(text):
     """The parameters of a call. The owner of a handle stands for its address, and so does an IntPtr where that handle is closed."""
-    for word in parts(CSHARP, re.sub(r"\s+", " ", text), ",", r"(?:\[Out\] )?(ref |out )?(\w+)(\[\])? (\w+)"):
+    for word in parts(CSHARP, re.sub(r"\s+", " ", text), ",", r"(?:(?:\[In\])?\[Out\] )?(ref |out )?(\w+)(\[\])? (\w+)"):
         base, name = csharp_type(word[2]), snake(word[4])
         is_handle = name in HANDLES and base in (f"{name}_handle", "pointer")
         yield name, "* handle" if is_handle else f"* {base}" if word[1] or word[3] else base
@@ -250,10 +250,11 @@ def of_csharp(top):
     structs = found(CSHARP, text, r"\bstruct \w+\s*\{", wanted)
     statuses = found(CSHARP, text, r"\benum ", r"enum Status : uint\s*\{(.*?)\}")
     numbers = [one for told in statuses for one in parts(CSHARP, told[1], ",", r"(\w+) = (\d+)")]
+    version = found(CSHARP, text, r"\bconst uint ", r"public const uint Wanted = (\d+);")
     calls = found(CSHARP, text, r"\bextern ", r"\[DllImport\(Library\)\]\s*internal static extern (\w+) (\w+)\(([^;{]*?)\);")
     return Border(
         CSHARP,
-        {snake(one[1]).upper(): int(one[2]) for one in numbers},
+        {snake(one[1]).upper(): int(one[2]) for one in numbers} | {"VERSION": int(one[1]) for one in version},
         {plain(one[1]): with_arrays(list(csharp_fields(one[2]))) for one in structs},
         {one[2]: list(csharp_parameters(one[3])) for one in calls},
         {one[2]: csharp_type(one[1]) for one in calls},
@@ -318,16 +319,24 @@ def of_cpp(top, header):
     yield from (f"{CPP}: the number {name} is missing" for name in header.numbers if f"NAVD_{name}" not in words)
 
 
+def of_version(top, header):
+    """The version of the header is that of the file, as one number."""
+    major, minor, patch = (int(part) for part in (top / VERSION).read_text().split("."))
+    number = major * 10000 + minor * 100 + patch
+    if header.numbers.get("VERSION") != number:
+        yield f"{VERSION}: the version is {number}, the header has {header.numbers.get('VERSION')}"
+
+
 def differences(top):
     """A line for each difference, and what was compared."""
     header = of_header(top)
     lines = [*compared(header, of_library(top))]
     lines += compared(for_hosts(header, lambda told: told), of_rust(top))
     eased = for_hosts(header, lambda told: re.sub(r"\*(const|mut) ", "* ", told))
-    lines += [*compared(eased, of_python(top)), *compared(eased, of_csharp(top)), *of_cpp(top, header)]
+    lines += [*compared(eased, of_python(top)), *compared(eased, of_csharp(top)), *of_cpp(top, header), *of_version(top, header)]
     words, fields = (sum(map(len, lists.values())) for lists in (header.calls, header.structs))
     said = f"{len(header.calls)} calls with {words} parameters, {len(header.structs)} structs with {fields} fields, "
-    return lines, said + f"{len(header.numbers)} status numbers"
+    return lines, said + f"{len(header.numbers) - 1} status numbers and the version"
 
 
 def main(words):

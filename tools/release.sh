@@ -102,6 +102,8 @@ find_version() {
     series=${version%.*}
     grep -qx "version = \"$version\"" "$top/hosts/rust/Cargo.toml" || stop "hosts/rust/Cargo.toml has another version than VERSION, $version"
     grep -q "^## $version\b" "$top/CHANGELOG.md" || stop "CHANGELOG.md has no heading for $version"
+    number=$(echo "$version" | awk -F. '{ print $1 * 10000 + $2 * 100 + $3 }')
+    grep -qx "#define NAVD_VERSION ${number}u" "$top/include/navd.h" || stop "include/navd.h has another version than VERSION, $version"
     name=navd-$version
     SOURCE_DATE_EPOCH=${SOURCE_DATE_EPOCH:-$(git -C "$top" log -1 --format=%ct)}
     export SOURCE_DATE_EPOCH

@@ -50,7 +50,7 @@ static navd_level first, second, third, empty;
 static navd_view view, empty_view;
 static navd_job jobs[3];
 static bool holds[3], is_built[3];
-static uint32_t entries, made_by[NAVD_TOO_MANY_SPANS + 1];
+static uint32_t entries, made_by[NAVD_NO_PLACE + 1];
 static uint32_t alive[1024], alive_count;
 
 static bool is_block(const navd_block *b) {
@@ -59,6 +59,38 @@ static bool is_block(const navd_block *b) {
 
 static bool is_cylinder(const navd_cylinder *c) {
     return c->cx <= 2048 && c->cz <= 2048 && c->r <= 1023 && c->y0 <= c->y1 && c->y1 <= 8191;
+}
+
+static bool is_near(navd_point p) {
+    return -16384 <= p.x && p.x <= 81920 && -16384 <= p.z && p.z <= 81920;
+}
+
+static int64_t turn_at(navd_point a, navd_point b, navd_point c) {
+    return ((int64_t)b.x - a.x) * ((int64_t)c.z - a.z) - ((int64_t)b.z - a.z) * ((int64_t)c.x - a.x);
+}
+
+static bool is_prism(const navd_prism *p) {
+    if (p->corners < 3 || p->corners > 6 || p->y0 > p->y1 || p->y1 > 8191) return false;
+    for (uint32_t i = 0; i < p->corners; i++)
+        if (!is_near(p->point[i])) return false;
+    for (uint32_t i = 0; i < p->corners; i++)
+        for (uint32_t next = (i + 1) % p->corners, j = 0; j < p->corners; j++)
+            if (j != i && j != next && turn_at(p->point[i], p->point[next], p->point[j]) <= 0) return false;
+    return true;
+}
+
+static bool is_disc(const navd_disc *d) {
+    return is_near((navd_point){d->x, d->z}) && 1 <= d->r && d->r <= 16384 && d->y0 <= d->y1 && d->y1 <= 8191;
+}
+
+/* A base of corners around a place, of which one is elsewhere now and then. */
+static navd_prism prism(void) {
+    static const navd_point around[6] = {{4, 0}, {2, 3}, {-2, 3}, {-4, 0}, {-2, -3}, {2, -3}};
+    navd_prism it = {pick(20) ? 3 + pick(4) : number(6), {{0, 0}}, pick(9) ? 0 : number(99), number(8191)};
+    int32_t x = (int32_t)pick(200), z = (int32_t)pick(200), wide = 1 + (int32_t)pick(6), deep = 1 + (int32_t)pick(6);
+    for (int i = 0; i < 6; i++) it.point[i] = (navd_point){x + wide * around[i].x, z + deep * around[i].z};
+    if (!pick(8)) it.point[pick(6)] = (navd_point){coordinate(), coordinate()};
+    return it;
 }
 
 static bool is_way(const navd_way *w) {
@@ -74,7 +106,7 @@ static bool is_way(const navd_way *w) {
         made_by[status]++; \
         if (status == NAVD_OUT_OF_RANGE ? entry != 0 : entry != ++entries) ENDS(entry, "the entry of a request", entries); \
         if (entry) ENDS(call_second, "the second level", status); \
-        if (kind < 2 && status == NAVD_OK) alive[alive_count++] = entry; \
+        if (kind < 4 && status == NAVD_OK) alive[alive_count++] = entry; \
     } while (0)
 
 static void request(void) {
@@ -83,7 +115,9 @@ static void request(void) {
     navd_cylinder round = {number(24), number(24), number(3), 0, number(8191)};
     uint32_t place = alive_count ? pick(alive_count) : 0;
     uint32_t gone = alive_count && pick(4) ? alive[place] : number(entries + 2);
-    uint32_t kind = pick(alive_count ? 4 : 2);
+    navd_prism base = prism();
+    navd_disc disc = {coordinate(), coordinate(), pick(30) ? 1 + pick(40) : number(16384), 0, number(8191)};
+    uint32_t kind = pick(alive_count ? 8 : 4);
     switch (kind) {
     case 0:
         REQUEST("navd_add_block", is_block(&block) && area <= 63, navd_add_block(&first, &block, area, &entry),
@@ -93,10 +127,18 @@ static void request(void) {
         REQUEST("navd_add_cylinder", is_cylinder(&round) && area <= 63, navd_add_cylinder(&first, &round, area, &entry),
                 navd_add_cylinder(&second, &round, area, &other));
         break;
+    case 2:
+        REQUEST("navd_add_prism", is_prism(&base) && area <= 63, navd_add_prism(&first, &base, area, &entry),
+                navd_add_prism(&second, &base, area, &other));
+        break;
+    case 3:
+        REQUEST("navd_add_disc", is_disc(&disc) && area <= 63, navd_add_disc(&first, &disc, area, &entry),
+                navd_add_disc(&second, &disc, area, &other));
+        break;
     default:
         REQUEST("navd_remove", true, navd_remove(&first, gone, &entry), navd_remove(&second, gone, &other));
     }
-    for (uint32_t i = 0; kind > 1 && i < alive_count; i++)
+    for (uint32_t i = 0; kind > 3 && i < alive_count; i++)
         if (alive[i] == gone) alive[i] = alive[--alive_count];
 }
 
@@ -224,6 +266,86 @@ static void of_view(void) {
         ENDS(status, "navd_view_march", NAVD_OK, NAVD_NO_PATH);
     }
     if (!pick(8)) navd_view_close(&view);
+}
+
+/* Ways and floods through a filter, and whether the way that was told last still leads on, in what may be another mesh by now. */
+static void of_ways(void) {
+    static navd_link kept[4096], links[4096];
+    static navd_way kept_way;
+    static navd_polygon first_kept;
+    static size_t kept_count;
+    uint32_t costs[64], shows, status;
+    size_t count = pick(2) ? 0 : pick(6) ? 64 : pick(64), room = pick(8);
+    bool are_costs = count == 0 || count == 64;
+    for (size_t i = 0; i < 64; i++) {
+        costs[i] = pick(600) ? 1 + pick(1000) : pick(2) ? 0 : 1001;
+        are_costs &= i >= count || (costs[i] && costs[i] <= 1000);
+    }
+    uint64_t areas = pick(3) ? UINT64_MAX : ~(UINT64_C(1) << pick(64));
+    navd_way way = {{coordinate(), coordinate()}, height(), {coordinate(), coordinate()}, height()};
+    navd_turn turns[8];
+    navd_reached reached[8];
+    memset(reached, 7, sizeof reached);
+    ENDS(navd_look(&view, &first, &shows), "navd_look", NAVD_OK);
+    navd_kept asked = {.way = kept_way, .first = first_kept, .areas = areas};
+    memcpy(links, kept, kept_count * sizeof *links);
+    status = navd_view_check_path(&view, &asked, costs, count, links, kept_count, turns, room);
+    if (are_costs) ENDS(status, "navd_view_check_path", NAVD_OK, NAVD_CUT, NAVD_NO_START); else ENDS(status, "navd_view_check_path", NAVD_OUT_OF_RANGE);
+    made_by[status]++;
+    bool leads = status == NAVD_OK || status == NAVD_CUT;
+    if (leads && (asked.links > kept_count || (status == NAVD_OK && asked.links != kept_count))) ENDS(1, "the links of a kept path", 0);
+    for (size_t i = 0; i < kept_count; i++)
+        if (memcmp(&links[i].left, &kept[i].left, 2 * sizeof(navd_point))) ENDS(1, "a portal of a kept path", 0);
+    if (memcmp(links + (leads ? asked.links : 0), kept + (leads ? asked.links : 0), (kept_count - (leads ? asked.links : 0)) * sizeof *links))
+        ENDS(1, "the links behind those that lead on", 0);
+    navd_plan plan = {.way = way, .areas = areas, .most_cost = pick(3) ? UINT64_MAX : pick(3000), .most_polygons = pick(3) ? SIZE_MAX : pick(30)};
+    status = navd_view_plan(&view, &plan, costs, count, kept, 4096, turns, room);
+    if (is_way(&way) && are_costs) ENDS(status, "navd_view_plan", NAVD_OK, NAVD_LIMIT, NAVD_NO_START, NAVD_NO_GOAL, NAVD_NO_PATH);
+    else ENDS(status, "navd_view_plan", NAVD_OUT_OF_RANGE);
+    made_by[status]++;
+    if (status == NAVD_OK) kept_count = plan.links, first_kept = plan.first, kept_way = way;
+    if (kept_count > 4096) ENDS(1, "the links of a way", 0);
+    navd_flood flood = {.at = way.from, .y = way.from_y, .areas = areas, .most_cost = pick(5000)};
+    bool is_place = is_way(&(navd_way){way.from, 0, way.from, 0});
+    status = navd_view_flood(&view, &flood, costs, count, reached, room);
+    if (is_place && are_costs) ENDS(status, "navd_view_flood", NAVD_OK, NAVD_NO_START); else ENDS(status, "navd_view_flood", NAVD_OUT_OF_RANGE);
+    made_by[status]++;
+    for (size_t i = 1; status == NAVD_OK && i < room && i < flood.polygons; i++)
+        if (reached[i].via >= i || reached[i].cost < reached[i - 1].cost || reached[i].cost > flood.most_cost) ENDS(1, "a polygon of a flood", 0);
+    for (size_t i = status == NAVD_OK && flood.polygons < room ? flood.polygons : room; i < 8; i++)
+        if (status == NAVD_OK && reached[i].via != SIZE_MAX / 255 * 7) ENDS(1, "the room behind a flood", 0);
+}
+
+/* The nearest place, the height at a point of a polygon, and whether a place is one of what may be another mesh by now. */
+static void of_places(void) {
+    static navd_place kept;
+    uint64_t areas = pick(3) ? UINT64_MAX : ~(UINT64_C(1) << pick(64));
+    navd_near near = {areas, {coordinate(), coordinate()}, height(), pick(3) ? pick(200) : number(262143), number(16383), number(16383), number(65535)};
+    bool is_asked = is_way(&(navd_way){near.at, 0, near.at, 0}) && near.reach < 262144 && near.down < 16384 && near.up < 16384 && near.weight < 65536;
+    uint32_t shows, status;
+    ENDS(navd_look(&view, &first, &shows), "navd_look", NAVD_OK);
+    status = navd_view_is_place(&view, &kept);
+    ENDS(status, "navd_view_is_place", NAVD_OK, NAVD_NO_PLACE);
+    made_by[status]++;
+    navd_place place = {.y = 8192}, floor;
+    status = navd_view_nearest(&view, &near, &place);
+    if (is_asked) ENDS(status, "navd_view_nearest", NAVD_OK, NAVD_NO_PLACE); else ENDS(status, "navd_view_nearest", NAVD_OUT_OF_RANGE);
+    made_by[status]++;
+    if (status == NAVD_OK) {
+        int64_t x = (int64_t)place.at.x - near.at.x, z = (int64_t)place.at.z - near.at.z, reach = near.reach, y = place.y;
+        if (x * x + z * z > reach * reach || y + near.down < near.y || y > (int64_t)near.y + near.up) ENDS(1, "a place in reach", 0);
+        ENDS(navd_view_is_place(&view, &place), "the nearest place", NAVD_OK);
+        floor = kept = place;
+        ENDS(navd_view_height(&view, &floor), "the height of the nearest place", NAVD_OK);
+        if (floor.y < place.y) ENDS(floor.y, "the highest floor", place.y);
+    } else if (place.y != 8192) ENDS(place.y, "a place that is not told", 8192);
+    floor = (navd_place){{0, pick(9)}, {coordinate(), coordinate()}, 8192};
+    status = navd_view_height(&view, &floor);
+    if (is_way(&(navd_way){floor.at, 0, floor.at, 0})) ENDS(status, "navd_view_height", NAVD_OK, NAVD_NO_PLACE);
+    else ENDS(status, "navd_view_height", NAVD_OUT_OF_RANGE);
+    made_by[status]++;
+    if ((status == NAVD_OK) != (floor.y != 8192)) ENDS(floor.y, "a height", 8192);
+    ENDS(navd_view_is_place(&view, &floor), "the place of a height", status);
 }
 
 /* Now and then both histories begin again. */
@@ -356,6 +478,19 @@ static void of_empty(void) {
     ENDS(navd_view_find_hop(&empty_view, &hop, &jump, 1, steps, 1, turns, 1), "an empty handle", NAVD_EMPTY);
     ENDS(navd_view_send(&empty_view, &way, links, 1, &walker), "an empty handle", NAVD_EMPTY);
     ENDS(navd_view_march(&empty_view, &walker, 5, links, 1), "an empty handle", NAVD_EMPTY);
+    navd_plan plan = {.way = way};
+    navd_kept kept = {.way = way};
+    navd_flood flood = {.at = {1, 1}};
+    navd_reached reached[1];
+    ENDS(navd_view_plan(&empty_view, &plan, costs, 64, links, 1, turns, 1), "an empty handle", NAVD_EMPTY);
+    ENDS(navd_view_check_path(&empty_view, &kept, costs, 64, links, 1, turns, 1), "an empty handle", NAVD_EMPTY);
+    ENDS(navd_view_flood(&empty_view, &flood, costs, 0, reached, 1), "an empty handle", NAVD_EMPTY);
+    navd_near near = {.at = {1, 1}};
+    navd_place on_mesh = {.at = {1, 1}};
+    ENDS(navd_view_nearest(&empty_view, &near, &on_mesh), "an empty handle", NAVD_EMPTY);
+    ENDS(navd_view_height(&empty_view, &on_mesh), "an empty handle", NAVD_EMPTY);
+    ENDS(navd_view_is_place(&empty_view, &on_mesh), "an empty handle", NAVD_EMPTY);
+    if (navd_version() != NAVD_VERSION) ENDS(1, "the version", 0);
     if (told != 7 || count != 7) ENDS(told, "what an empty handle told", 7);
 }
 
@@ -411,11 +546,12 @@ int main(int argc, char **words) {
         case 5: case 6: pick(5) ? build() : renew(); break;
         case 7: case 8: job(); break;
         case 9: pick(4) ? look() : of_view(); break;
+        case 10: pick(2) ? of_ways() : of_places(); break;
         default: question();
         }
     agree();
     printf("%" PRIu32 " entries alike; ended so often with each status:", entries);
-    for (size_t i = 0; i <= NAVD_TOO_MANY_SPANS; i++) printf(" %" PRIu32, made_by[i]);
+    for (size_t i = 0; i <= NAVD_NO_PLACE; i++) printf(" %" PRIu32, made_by[i]);
     putchar('\n');
     for (size_t i = 0; i < 3; i++) navd_job_close(&jobs[i]);
     navd_view_close(&view);

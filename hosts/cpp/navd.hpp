@@ -69,8 +69,12 @@ enum class [[nodiscard]] Status : uint32_t {
     ok = NAVD_OK, no_memory = NAVD_NO_MEMORY, empty = NAVD_EMPTY, faulty = NAVD_FAULTY, out_of_range = NAVD_OUT_OF_RANGE,
     too_many = NAVD_TOO_MANY, dead = NAVD_DEAD, history_full = NAVD_HISTORY_FULL, not_yet = NAVD_NOT_YET, same = NAVD_SAME,
     no_start = NAVD_NO_START, no_goal = NAVD_NO_GOAL, no_path = NAVD_NO_PATH, wall = NAVD_WALL, no_room = NAVD_NO_ROOM,
-    stale = NAVD_STALE, foreign = NAVD_FOREIGN, busy = NAVD_BUSY, too_many_spans = NAVD_TOO_MANY_SPANS,
+    stale = NAVD_STALE, foreign = NAVD_FOREIGN, busy = NAVD_BUSY, too_many_spans = NAVD_TOO_MANY_SPANS, limit = NAVD_LIMIT,
+    cut = NAVD_CUT, no_place = NAVD_NO_PLACE,
 };
+
+// Whether the library has the version of the header: one that is loaded while the program runs may have another.
+inline bool is_same_version() noexcept { return navd_version() == NAVD_VERSION; }
 
 // What a call reads: an address and a length.
 #ifdef __cpp_lib_span
@@ -96,6 +100,19 @@ struct Path {
     navd_polygon first{};
     std::vector<navd_link> links;
     std::vector<navd_turn> turns;
+};
+
+// The areas that may be entered, bit a for area a, and costs by area for one question, or none for those of the view.
+struct Filter {
+    uint64_t areas = UINT64_MAX;
+    Array<uint32_t> costs{};
+};
+
+// What ends a search, and what it left: a way there costs at least `seen`, where a limit ended it.
+struct Limits {
+    uint64_t most_cost = UINT64_MAX;
+    size_t most_polygons = SIZE_MAX;
+    uint64_t seen = 0;
 };
 
 struct Hop {
@@ -280,6 +297,12 @@ public:
     Status add_cylinder(const navd_cylinder &cylinder, uint32_t area, uint32_t &entry) noexcept {
         return Status{navd_add_cylinder(&handle, &cylinder, area, &entry)};
     }
+    Status add_prism(const navd_prism &prism, uint32_t area, uint32_t &entry) noexcept {
+        return Status{navd_add_prism(&handle, &prism, area, &entry)};
+    }
+    Status add_disc(const navd_disc &disc, uint32_t area, uint32_t &entry) noexcept {
+        return Status{navd_add_disc(&handle, &disc, area, &entry)};
+    }
     Status remove(uint32_t number, uint32_t &entry) noexcept { return Status{navd_remove(&handle, number, &entry)}; }
 
     Status settle(uint32_t &published) noexcept { return Status{navd_settle(&handle, &published)}; }
@@ -319,6 +342,71 @@ public:
         return Status{navd_view_set_costs(&handle, detail::address(costs.data()), costs.size())};
     }
     Status count(navd_shown &shown) noexcept { return Status{navd_view_count(&handle, &shown)}; }
+
+    // Takes a path over into what the view shows: way.from is where its walker is now, path.first the polygon in which it was last. After Status::cut
+    // its links are those that lead on, and it has no turns; after another end than this and Status::ok it has neither.
+    Status check_path(const navd_way &way, const Filter &filter, Path &path) {
+        const std::vector<navd_link> given = path.links;
+        navd_kept kept{};
+        uint32_t end = NAVD_OK;
+        const Status status = detail::all(path.turns, [&](navd_turn *turns, size_t *count) {
+            kept = {};
+            kept.way = way;
+            kept.first = path.first;
+            kept.areas = filter.areas;
+            path.links = given;
+            end = navd_view_check_path(&handle, &kept, detail::address(filter.costs.data()), filter.costs.size(), detail::address(path.links.data()),
+                                       path.links.size(), turns, *count);
+            *count = kept.turns;
+            return end == NAVD_CUT ? NAVD_OK : end;
+        });
+        path.links.resize(status == Status::ok ? kept.links : 0);
+        path.cost = kept.cost;
+        path.first = kept.first;
+        return Status{end};
+    }
+
+    // The polygons within a cost of a place, by rising costs.
+    Status flood(navd_point at, uint32_t y, uint64_t most_cost, const Filter &filter, std::vector<navd_reached> &reached) {
+        navd_flood told{};
+        told.at = at;
+        told.y = y;
+        told.areas = filter.areas;
+        told.most_cost = most_cost;
+        return detail::all(reached, [&](navd_reached *to, size_t *count) {
+            const uint32_t end = navd_view_flood(&handle, &told, detail::address(filter.costs.data()), filter.costs.size(), to, *count);
+            *count = told.polygons;
+            return end;
+        });
+    }
+
+    // A cheapest way through a filter, within limits.
+    Status plan(const navd_way &way, const Filter &filter, Limits &limits, Path &path) {
+        navd_plan told{};
+        told.way = way;
+        told.areas = filter.areas;
+        told.most_cost = limits.most_cost;
+        told.most_polygons = limits.most_polygons;
+        const Status status =
+            detail::both(path.links, path.turns, [&](navd_link *links, size_t &count, navd_turn *turns, size_t &others) {
+                const uint32_t end = navd_view_plan(&handle, &told, detail::address(filter.costs.data()), filter.costs.size(), links, count,
+                                                    turns, others);
+                count = told.links;
+                others = told.turns;
+                return end;
+            });
+        path.cost = told.cost;
+        path.first = told.first;
+        limits.seen = told.seen;
+        return status;
+    }
+
+    // The nearest place. After Status::no_place none is in reach, and `place` is as it was.
+    Status nearest(const navd_near &near, navd_place &place) noexcept { return Status{navd_view_nearest(&handle, &near, &place)}; }
+    // The highest floor at the point of a place in its polygon, left at place.y.
+    Status height(navd_place &place) noexcept { return Status{navd_view_height(&handle, &place)}; }
+    // Whether it is a place of what the view shows: Status::ok or Status::no_place.
+    Status is_place(const navd_place &place) noexcept { return Status{navd_view_is_place(&handle, &place)}; }
 };
 
 } // namespace navd

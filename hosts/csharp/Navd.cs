@@ -46,7 +46,10 @@ namespace Navd
         Stale = 15,
         Foreign = 16,
         Busy = 17,
-        TooManySpans = 18
+        TooManySpans = 18,
+        Limit = 20,
+        Cut = 21,
+        NoPlace = 22
     }
 
     // == The structs of include/navd.h, field for field ==
@@ -77,6 +80,23 @@ namespace Navd
     public struct Cylinder
     {
         public uint Cx, Cz, R, Y0, Y1;
+    }
+
+    /// <summary>How many corners a base has, these counterclockwise, in sixteenths of a cell, and heights Y0 to Y1.</summary>
+    [StructLayout(LayoutKind.Sequential)]
+    public struct Prism
+    {
+        public uint Corners;
+        public Point First, Second, Third, Fourth, Fifth, Sixth;
+        public uint Y0, Y1;
+    }
+
+    /// <summary>A centre and a radius in sixteenths of a cell, heights Y0 to Y1.</summary>
+    [StructLayout(LayoutKind.Sequential)]
+    public struct Disc
+    {
+        public int X, Z;
+        public uint R, Y0, Y1;
     }
 
     /// <summary>From where to where, with heights that say in which storey.</summary>
@@ -121,7 +141,8 @@ namespace Navd
         public uint Area, Low, High;
     }
 
-    /// <summary>A block (Kind 0) or a cylinder (Kind 1), with the area that it gives, or 0 where it stops agents.</summary>
+    /// <summary>A block (Kind 0), a cylinder (1), a prism (2) or a disc (3), with the area that it gives, or 0 where it stops agents. Of prisms and
+    /// discs no numbers are told.</summary>
     [StructLayout(LayoutKind.Sequential)]
     public struct Obstacle
     {
@@ -202,6 +223,62 @@ namespace Navd
         public long Num, Den;
     }
 
+    [StructLayout(LayoutKind.Sequential)]
+    internal struct NavdPlan
+    {
+        internal Way Way;
+        internal ulong Areas, MostCost;
+        internal UIntPtr MostPolygons;
+        internal ulong Cost, Seen;
+        internal Polygon First;
+        internal UIntPtr Links, Turns;
+    }
+
+    [StructLayout(LayoutKind.Sequential)]
+    internal struct NavdKept
+    {
+        internal Way Way;
+        internal Polygon First;
+        internal ulong Areas, Cost;
+        internal UIntPtr Links, Turns;
+    }
+
+    [StructLayout(LayoutKind.Sequential)]
+    internal struct NavdFlood
+    {
+        internal Point At;
+        internal uint Y;
+        internal ulong Areas, MostCost;
+        internal UIntPtr Polygons;
+    }
+
+    /// <summary>A polygon of a flood, what a cheapest walk to it costs, and the place of the polygon before it.</summary>
+    [StructLayout(LayoutKind.Sequential)]
+    public struct Reached
+    {
+        public Polygon Polygon;
+        public ulong Cost;
+        public UIntPtr Via;
+    }
+
+    /// <summary>A place on the mesh: a polygon, a point that it holds, and the floor there.</summary>
+    [StructLayout(LayoutKind.Sequential)]
+    public struct Place
+    {
+        public Polygon Polygon;
+        public Point At;
+        public uint Y;
+    }
+
+    /// <summary>What is looked for: allowed areas, a point and a height, how far in the plane, down and up, and what a height unit counts.</summary>
+    [StructLayout(LayoutKind.Sequential)]
+    public struct Near
+    {
+        public ulong Areas;
+        public Point At;
+        public uint Y, Reach, Down, Up, Weight;
+    }
+
     /// <summary>The first line of a text that fails, from 1, and the kind of its fault.</summary>
     [StructLayout(LayoutKind.Sequential)]
     public struct Fault
@@ -228,6 +305,8 @@ namespace Navd
         const string Library = "navd";
 
         [DllImport(Library)]
+        internal static extern uint navd_version();
+        [DllImport(Library)]
         internal static extern Status navd_open(LevelHandle level, byte[] text, UIntPtr length, out Fault fault);
         [DllImport(Library)]
         internal static extern Status navd_open_triangles(LevelHandle level, byte[] text, UIntPtr length, out Fault fault);
@@ -237,6 +316,10 @@ namespace Navd
         internal static extern Status navd_add_block(LevelHandle level, ref Block block, uint area, out uint entry);
         [DllImport(Library)]
         internal static extern Status navd_add_cylinder(LevelHandle level, ref Cylinder cylinder, uint area, out uint entry);
+        [DllImport(Library)]
+        internal static extern Status navd_add_prism(LevelHandle level, ref Prism prism, uint area, out uint entry);
+        [DllImport(Library)]
+        internal static extern Status navd_add_disc(LevelHandle level, ref Disc disc, uint area, out uint entry);
         [DllImport(Library)]
         internal static extern Status navd_remove(LevelHandle level, uint number, out uint entry);
         [DllImport(Library)]
@@ -322,6 +405,32 @@ namespace Navd
         [DllImport(Library)]
         internal static extern Status navd_view_border_links(ViewHandle view, uint tile, [Out] Link[] links, UIntPtr room,
             out UIntPtr count);
+        [DllImport(Library)]
+        internal static extern Status navd_view_check_path(ViewHandle view, ref NavdKept kept, uint[] costs, UIntPtr costsCount,
+            [In][Out] Link[] links, UIntPtr count, [Out] Turn[] turns, UIntPtr turnsRoom);
+        [DllImport(Library)]
+        internal static extern Status navd_view_flood(ViewHandle view, ref NavdFlood flood, uint[] costs, UIntPtr costsCount,
+            [Out] Reached[] reached, UIntPtr room);
+        [DllImport(Library)]
+        internal static extern Status navd_view_plan(ViewHandle view, ref NavdPlan plan, uint[] costs, UIntPtr costsCount,
+            [Out] Link[] links, UIntPtr linksRoom, [Out] Turn[] turns, UIntPtr turnsRoom);
+        [DllImport(Library)]
+        internal static extern Status navd_view_nearest(ViewHandle view, ref Near near, ref Place place);
+        [DllImport(Library)]
+        internal static extern Status navd_view_height(ViewHandle view, ref Place place);
+        [DllImport(Library)]
+        internal static extern Status navd_view_is_place(ViewHandle view, ref Place place);
+    }
+
+    /// <summary>The version, as major * 10000 + minor * 100 + patch: of this file, and of the library.</summary>
+    public static class Version
+    {
+        public const uint Wanted = 100;
+
+        public static uint OfLibrary()
+        {
+            return Native.navd_version();
+        }
     }
 
     // == Owners of handles ==
@@ -408,6 +517,8 @@ namespace Navd
 
     internal static class Given
     {
+        internal static readonly UIntPtr Most = UIntPtr.Size == 8 ? (UIntPtr)ulong.MaxValue : (UIntPtr)uint.MaxValue;
+
         internal static UIntPtr Length(Array items)
         {
             return (UIntPtr)(uint)items.Length;
@@ -450,6 +561,13 @@ namespace Navd
         public Polygon First;
         public readonly Room<Link> Links = new Room<Link>();
         public readonly Room<Turn> Turns = new Room<Turn>();
+    }
+
+    /// <summary>The areas that may be entered, bit a for area a, and costs by area for one question, or none for those of the view.</summary>
+    public sealed class Filter
+    {
+        public ulong Areas = ulong.MaxValue;
+        public uint[] Costs = new uint[0];
     }
 
     public sealed class Hop
@@ -629,6 +747,16 @@ namespace Navd
             return Native.navd_add_cylinder(level, ref cylinder, area, out entry);
         }
 
+        public Status AddPrism(Prism prism, uint area, out uint entry)
+        {
+            return Native.navd_add_prism(level, ref prism, area, out entry);
+        }
+
+        public Status AddDisc(Disc disc, uint area, out uint entry)
+        {
+            return Native.navd_add_disc(level, ref disc, area, out entry);
+        }
+
         public Status Remove(uint number, out uint entry)
         {
             return Native.navd_remove(level, number, out entry);
@@ -734,6 +862,82 @@ namespace Navd
         {
             uint[] items = Given.Items(costs, "costs");
             return Native.navd_view_set_costs(view, items, Given.Length(costs));
+        }
+
+        /// <summary>A cheapest way through a filter; the search ends behind mostCost and after mostPolygons, where they are not their types' greatest numbers.
+        /// Status.Limit: a way there, if there is one, costs at least `seen`.</summary>
+        public Status Plan(Way way, Filter filter, ulong mostCost, uint mostPolygons, Path path, out ulong seen)
+        {
+            Status status;
+            UIntPtr polygons = mostPolygons == uint.MaxValue ? Given.Most : (UIntPtr)mostPolygons;
+            uint[] costs = Given.Items(filter.Costs, "filter.Costs");
+            var told = new NavdPlan { Way = way, Areas = filter.Areas, MostCost = mostCost, MostPolygons = polygons };
+            Room<Link> links = path.Links;
+            Room<Turn> turns = path.Turns;
+            do
+            {
+                status = Native.navd_view_plan(view, ref told, costs, Given.Length(filter.Costs), links.Items, links.Length, turns.Items,
+                    turns.Length);
+            } while (!links.Takes(status == Status.Ok, told.Links) | !turns.Takes(status == Status.Ok, told.Turns));
+            path.Cost = told.Cost;
+            path.First = told.First;
+            seen = told.Seen;
+            return status;
+        }
+
+        /// <summary>Takes a path over into what the view shows: way.From is where its walker is now, path.First the polygon in which it was last. After
+        /// Status.Cut its links are those that lead on, and it has no turns; after another end than this and Status.Ok it has neither.</summary>
+        public Status CheckPath(Way way, Filter filter, Path path)
+        {
+            Status status;
+            uint[] costs = Given.Items(filter.Costs, "filter.Costs");
+            Room<Link> links = path.Links;
+            Room<Turn> turns = path.Turns;
+            var given = new Link[links.Count];
+            Array.Copy(links.Items, given, links.Count);
+            var told = new NavdKept();
+            do
+            {
+                told = new NavdKept { Way = way, First = path.First, Areas = filter.Areas };
+                Array.Copy(given, links.Items, given.Length);
+                status = Native.navd_view_check_path(view, ref told, costs, Given.Length(filter.Costs), links.Items, Given.Length(given), turns.Items,
+                    turns.Length);
+            } while (!turns.Takes(status == Status.Ok, told.Turns));
+            links.Takes(status == Status.Ok || status == Status.Cut, told.Links);
+            path.Cost = told.Cost;
+            path.First = told.First;
+            return status;
+        }
+
+        /// <summary>The polygons within a cost of a place, by rising costs.</summary>
+        public Status Flood(Point at, uint y, ulong mostCost, Filter filter, Room<Reached> reached)
+        {
+            Status status;
+            uint[] costs = Given.Items(filter.Costs, "filter.Costs");
+            var told = new NavdFlood { At = at, Y = y, Areas = filter.Areas, MostCost = mostCost };
+            do
+            {
+                status = Native.navd_view_flood(view, ref told, costs, Given.Length(filter.Costs), reached.Items, reached.Length);
+            } while (!reached.Takes(status == Status.Ok, told.Polygons));
+            return status;
+        }
+
+        /// <summary>The nearest place. After Status.NoPlace none is in reach, and the place is as it was.</summary>
+        public Status Nearest(Near near, ref Place place)
+        {
+            return Native.navd_view_nearest(view, ref near, ref place);
+        }
+
+        /// <summary>The highest floor at the point of a place in its polygon, left at place.Y.</summary>
+        public Status Height(ref Place place)
+        {
+            return Native.navd_view_height(view, ref place);
+        }
+
+        /// <summary>Whether it is a place of what the view shows: Status.Ok or Status.NoPlace.</summary>
+        public Status IsPlace(Place place)
+        {
+            return Native.navd_view_is_place(view, ref place);
         }
 
         public Status Count(out Shown shown)

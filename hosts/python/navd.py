@@ -11,6 +11,7 @@ that is not there is an answer. The library is looked for in the environment's N
     make -C hosts/c libnavd.so
 """
 import ctypes
+import math
 import os
 from ctypes import POINTER, Structure, byref, c_int32, c_int64, c_size_t, c_uint32, c_uint64, c_void_p
 from dataclasses import dataclass
@@ -18,10 +19,17 @@ from pathlib import Path
 
 OK, NO_MEMORY, EMPTY, FAULTY, OUT_OF_RANGE, TOO_MANY, DEAD, HISTORY_FULL, NOT_YET, SAME, NO_START, NO_GOAL, NO_PATH, WALL, NO_ROOM, \
     STALE, FOREIGN, BUSY, TOO_MANY_SPANS = range(19)
+LIMIT, CUT, NO_PLACE = 20, 21, 22
+
+# The version of the library that this file was written for, as major * 10000 + minor * 100 + patch.
+VERSION = 100
 
 NAMES = ("ok", "no memory", "empty handle", "faulty text", "number out of range", "too many obstacles", "no such obstacle", "history full",
          "a tile is awaited", "same as before", "no start", "no goal", "no path", "wall", "no room", "the build is wanted no more",
          "the job is of another ground", "the handle holds a job", "too many spans")
+
+# All areas, as a filter's.
+all_areas = 2**64 - 1
 
 
 class NavdError(Exception):
@@ -46,6 +54,14 @@ class _Block(Structure):
 
 class _Cylinder(Structure):
     _fields_ = [(name, c_uint32) for name in ("cx", "cz", "r", "y0", "y1")]
+
+
+class _Prism(Structure):
+    _fields_ = [("corners", c_uint32), ("point", _Point * 6), ("y0", c_uint32), ("y1", c_uint32)]
+
+
+class _Disc(Structure):
+    _fields_ = [("x", c_int32), ("z", c_int32), ("r", c_uint32), ("y0", c_uint32), ("y1", c_uint32)]
 
 
 class _Way(Structure):
@@ -109,6 +125,32 @@ class _Shown(Structure):
     _fields_ = [("published", c_uint32), ("tiles", c_uint32)]
 
 
+class _Plan(Structure):
+    _fields_ = [("way", _Way), ("areas", c_uint64), ("most_cost", c_uint64), ("most_polygons", c_size_t), ("cost", c_uint64), ("seen", c_uint64),
+                ("first", _Polygon), ("links", c_size_t), ("turns", c_size_t)]
+
+
+class _Kept(Structure):
+    _fields_ = [("way", _Way), ("first", _Polygon), ("areas", c_uint64), ("cost", c_uint64), ("links", c_size_t), ("turns", c_size_t)]
+
+
+class _Flood(Structure):
+    _fields_ = [("at", _Point), ("y", c_uint32), ("areas", c_uint64), ("most_cost", c_uint64), ("polygons", c_size_t)]
+
+
+class _Reached(Structure):
+    _fields_ = [("polygon", _Polygon), ("cost", c_uint64), ("via", c_size_t)]
+
+
+class _Place(Structure):
+    _fields_ = [("polygon", _Polygon), ("at", _Point), ("y", c_uint32)]
+
+
+class _Near(Structure):
+    _fields_ = [("areas", c_uint64), ("at", _Point), ("y", c_uint32), ("reach", c_uint32), ("down", c_uint32), ("up", c_uint32),
+                ("weight", c_uint32)]
+
+
 class _Fault(Structure):
     _fields_ = [("line", c_uint32), ("kind", c_uint32)]
 
@@ -140,6 +182,31 @@ class Cylinder:
     cz: int
     r: int
     y: tuple[int, int]
+
+
+@dataclass(frozen=True)
+class Prism:
+    """The corners of a base, 3 to 6, counterclockwise and strictly convex, in sixteenths of a cell, and heights from the first to the last."""
+    corners: list[tuple[int, int]]
+    y: tuple[int, int]
+
+
+@dataclass(frozen=True)
+class Disc:
+    """A centre and a radius in sixteenths of a cell, and heights from the first to the last."""
+    x: int
+    z: int
+    r: int
+    y: tuple[int, int]
+
+
+def turned_box(middle, half, angle, y, area=0):
+    """The Prism of a box that is turned about its middle: its half widths, in sixteenths of a cell, lie along x and z before that, and the angle is in
+    radians, counterclockwise. With the area 0, where it stops agents, its sides are moved out by a sixteenth, so that all of the box is in the prism."""
+    across, along = (width + (area == 0) for width in half)
+    cos, sin = math.cos(angle), math.sin(angle)
+    return Prism([(round(middle[0] + u * cos - v * sin), round(middle[1] + u * sin + v * cos))
+                  for u, v in ((-across, -along), (across, -along), (across, along), (-across, along))], y)
 
 
 @dataclass(frozen=True)
@@ -211,10 +278,11 @@ class Face:
 
 @dataclass(frozen=True)
 class Obstacle:
-    """A Block or a Cylinder under its number, with the area that it gives, or 0 where it stops agents."""
+    """A Block, a Cylinder, or a "prism" or a "disc", of which no numbers are told, under its number, with the area that it gives, or 0 where it stops
+    agents."""
     number: int
     area: int
-    shape: Block | Cylinder
+    shape: Block | Cylinder | str
 
 
 @dataclass(frozen=True)
@@ -252,6 +320,35 @@ class Walker:
 
 
 @dataclass(frozen=True)
+class Limited:
+    """A limit ended the search: a way there, if there is one, costs at least this."""
+    seen: int
+
+
+@dataclass(frozen=True)
+class Cut:
+    """A kept path that leads on in part: by these links, from its first polygon; where they are all, the goal has left the last polygon."""
+    cost: int
+    first: Polygon
+    links: list[Link]
+
+
+@dataclass(frozen=True)
+class Flooded:
+    """A polygon of a flood, what a cheapest walk to it costs, and the place in the list of the polygon before it."""
+    polygon: Polygon
+    cost: int
+    via: int
+
+
+@dataclass(frozen=True)
+class MeshPlace:
+    """A place on the mesh: a polygon, and a point that it holds, with the floor there."""
+    polygon: Polygon
+    at: Place
+
+
+@dataclass(frozen=True)
 class Counts:
     history: int
     target: int
@@ -270,6 +367,7 @@ def _library():
     faces = [handle, c_uint32, POINTER(_Face), c_size_t, count]
     links = [handle, c_uint32, POINTER(_Link), c_size_t, count]
     for name, words in {
+        "navd_version": [],
         "navd_open": [handle, ctypes.c_char_p, c_size_t, POINTER(_Fault)],
         "navd_open_triangles": [handle, ctypes.c_char_p, c_size_t, POINTER(_Fault)],
         "navd_find_hop": hop, "navd_view_find_hop": hop, "navd_send": send, "navd_view_send": send, "navd_march": march, "navd_view_march": march,
@@ -287,6 +385,8 @@ def _library():
         "navd_prepare": [handle],
         "navd_add_block": [handle, POINTER(_Block), c_uint32, number],
         "navd_add_cylinder": [handle, POINTER(_Cylinder), c_uint32, number],
+        "navd_add_prism": [handle, POINTER(_Prism), c_uint32, number],
+        "navd_add_disc": [handle, POINTER(_Disc), c_uint32, number],
         "navd_remove": [handle, c_uint32, number],
         "navd_settle": [handle, number],
         "navd_aim": [handle, number],
@@ -301,12 +401,23 @@ def _library():
         "navd_view_floors": [handle, c_uint32, c_uint32, POINTER(_Floor), c_size_t, POINTER(c_size_t)],
         "navd_view_find_path": [handle, POINTER(_Way), POINTER(_Link), c_size_t, POINTER(_Turn), c_size_t, POINTER(_Path)],
         "navd_view_cast_ray": [handle, POINTER(_Way), POINTER(_Ray)],
+        "navd_view_check_path": [handle, POINTER(_Kept), number, c_size_t, POINTER(_Link), c_size_t, POINTER(_Turn), c_size_t],
+        "navd_view_flood": [handle, POINTER(_Flood), number, c_size_t, POINTER(_Reached), c_size_t],
+        "navd_view_plan": [handle, POINTER(_Plan), number, c_size_t, POINTER(_Link), c_size_t, POINTER(_Turn), c_size_t],
+        "navd_view_nearest": [handle, POINTER(_Near), POINTER(_Place)],
+        "navd_view_height": [handle, POINTER(_Place)],
+        "navd_view_is_place": [handle, POINTER(_Place)],
     }.items():
         call = getattr(found, name)
         call.argtypes, call.restype = words, c_uint32
     for call in (found.navd_close, found.navd_view_close, found.navd_job_close):
         call.argtypes, call.restype = [handle], None
     return found
+
+
+def version():
+    """The version of the library, as VERSION has it."""
+    return _library().navd_version()
 
 
 def _polygon(at):
@@ -317,8 +428,40 @@ def _point(p):
     return p.x, p.z
 
 
+def _shape(it):
+    if it.kind == 0:
+        return Block((it.block.x0, it.block.x1), (it.block.y0, it.block.y1), (it.block.z0, it.block.z1))
+    if it.kind == 1:
+        return Cylinder(it.cylinder.cx, it.cylinder.cz, it.cylinder.r, (it.cylinder.y0, it.cylinder.y1))
+    return "prism" if it.kind == 2 else "disc"
+
+
 def _link(it):
     return Link(_polygon(it.from_), it.edge, _polygon(it.to), _point(it.left), _point(it.right))
+
+
+def _polygon_of(at):
+    return _Polygon(at.tile, at.index)
+
+
+def _link_of(it):
+    return _Link(_polygon_of(it.start), it.edge, _polygon_of(it.end), _Point(*it.left), _Point(*it.right))
+
+
+def _place_of(place):
+    return _Place(_polygon_of(place.polygon), _Point(place.at.x, place.at.z), place.at.y)
+
+
+def _is_there(status):
+    """Whether a call ended with a place."""
+    if status not in (OK, NO_PLACE):
+        raise NavdError(status)
+    return status == OK
+
+
+def _array(kind, items):
+    """What a call reads, which has an address also where it is empty."""
+    return (kind * max(1, len(items)))(*items)
 
 
 def _turn(it):
@@ -490,6 +633,18 @@ class Level(_Asked):
         told = _Cylinder(cylinder.cx, cylinder.cz, cylinder.r, *cylinder.y)
         return self._number(self._calls.navd_add_cylinder, byref(told), area)[1]
 
+    def add_prism(self, prism, area=0):
+        """The number of the obstacle."""
+        if len(prism.corners) > 6:
+            raise NavdError(OUT_OF_RANGE)
+        told = _Prism(len(prism.corners), (_Point * 6)(*prism.corners), *prism.y)
+        return self._number(self._calls.navd_add_prism, byref(told), area)[1]
+
+    def add_disc(self, disc, area=0):
+        """The number of the obstacle."""
+        told = _Disc(disc.x, disc.z, disc.r, *disc.y)
+        return self._number(self._calls.navd_add_disc, byref(told), area)[1]
+
     def remove(self, number):
         """The number of the entry."""
         return self._number(self._calls.navd_remove, number)[1]
@@ -532,8 +687,7 @@ class Level(_Asked):
     def obstacles(self):
         """The Obstacles that are alive."""
         found = _all(_Obstacle, lambda *room: self._calls.navd_obstacles(byref(self._handle), *room))
-        return [Obstacle(it.number, it.area, Cylinder(it.cylinder.cx, it.cylinder.cz, it.cylinder.r, (it.cylinder.y0, it.cylinder.y1)) if it.kind
-                         else Block((it.block.x0, it.block.x1), (it.block.y0, it.block.y1), (it.block.z0, it.block.z1))) for it in found]
+        return [Obstacle(it.number, it.area, _shape(it)) for it in found]
 
     def put_back_all(self):
         """Ends all claims."""
@@ -568,6 +722,77 @@ class View(_Asked):
         status = self._calls.navd_view_set_costs(byref(self._handle), (c_uint32 * max(1, len(costs)))(*costs), len(costs))
         if status:
             raise NavdError(status)
+
+    def plan(self, start, goal, areas=all_areas, costs=(), most_cost=2**64 - 1, most_polygons=c_size_t(-1).value):
+        """A cheapest Path_ through a filter: bit a of `areas` says whether area a may be entered, and `costs` are 64 numbers by area, or none for those
+        of the view. Or a Limited, where one of the limits ended the search, or a NoPath."""
+        told = _array(c_uint32, costs)
+        while True:
+            plan = _Plan(_way(start, goal), areas, most_cost, most_polygons)
+            status = self._calls.navd_view_plan(byref(self._handle), byref(plan), told, len(costs), self._links, len(self._links), self._turns,
+                                                len(self._turns))
+            if status in (NO_START, NO_GOAL, NO_PATH):
+                return NoPath(status)
+            if status == LIMIT:
+                return Limited(plan.seen)
+            if status:
+                raise NavdError(status)
+            if plan.links <= len(self._links) and plan.turns <= len(self._turns):
+                break
+            self._links, self._turns = (_Link * max(1, plan.links))(), (_Turn * max(1, plan.turns))()
+        return Path_(plan.cost, _polygon(plan.first), [_link(it) for it in self._links[:plan.links]],
+                     [_turn(it) for it in self._turns[:plan.turns]])
+
+    def check(self, path, start, goal, areas=all_areas, costs=()):
+        """The Path_ as which a path leads on, from where its walker is now, a Cut, or a NoPath. `path.first` is the polygon in which the walker was last, and
+        the links begin there."""
+        links, told = _array(_Link, [_link_of(it) for it in path.links]), _array(c_uint32, costs)
+        while True:
+            kept = _Kept(_way(start, goal), _polygon_of(path.first), areas)
+            status = self._calls.navd_view_check_path(byref(self._handle), byref(kept), told, len(costs), links, len(path.links), self._turns,
+                                                      len(self._turns))
+            if status == NO_START:
+                return NoPath(status)
+            if status not in (OK, CUT):
+                raise NavdError(status)
+            if kept.turns <= len(self._turns):
+                break
+            links, self._turns = _array(_Link, [_link_of(it) for it in path.links]), (_Turn * kept.turns)()
+        found = [_link(it) for it in links[:kept.links]]
+        if status == CUT:
+            return Cut(kept.cost, _polygon(kept.first), found)
+        return Path_(kept.cost, _polygon(kept.first), found, [_turn(it) for it in self._turns[:kept.turns]])
+
+    def flood(self, start, most_cost, areas=all_areas, costs=()):
+        """The Floodeds within a cost of a place, by rising costs, or a NoPath."""
+        room, told = (_Reached * 64)(), _array(c_uint32, costs)
+        while True:
+            flood = _Flood(_Point(start.x, start.z), start.y, areas, most_cost)
+            status = self._calls.navd_view_flood(byref(self._handle), byref(flood), told, len(costs), room, len(room))
+            if status == NO_START:
+                return NoPath(status)
+            if status:
+                raise NavdError(status)
+            if flood.polygons <= len(room):
+                return [Flooded(_polygon(it.polygon), it.cost, it.via) for it in room[:flood.polygons]]
+            room = (_Reached * flood.polygons)()
+
+    def nearest(self, to, reach=64, down=28, up=28, weight=4, areas=all_areas):
+        """The MeshPlace nearest to a Place, or None where none is in reach: `reach` in the plane, in sixteenths of a cell, `down` and `up` in height units.
+        A height unit beyond the agent's climb counts as `weight` sixteenths."""
+        near, told = _Near(areas, _Point(to.x, to.z), to.y, reach, down, up, weight), _Place()
+        if _is_there(self._calls.navd_view_nearest(byref(self._handle), byref(near), byref(told))):
+            return MeshPlace(_polygon(told.polygon), Place(told.at.x, told.at.z, told.y))
+        return None
+
+    def height(self, place):
+        """The highest floor at the point of a MeshPlace in its polygon, or None where the polygon does not hold the point."""
+        told = _place_of(place)
+        return told.y if _is_there(self._calls.navd_view_height(byref(self._handle), byref(told))) else None
+
+    def is_place(self, place):
+        """Whether a MeshPlace is one of the mesh that it shows."""
+        return _is_there(self._calls.navd_view_is_place(byref(self._handle), byref(_place_of(place))))
 
     def shown(self):
         """How many entries it shows, and how many tiles there are."""

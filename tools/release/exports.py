@@ -31,7 +31,7 @@ def stub():
     text = re.sub(r"/\*.*?\*/", "", (TOP / header.HEADER).read_text(), flags=re.S)
     yield '#include "navd.h"'
     for call in re.finditer(r"^(\w+) (navd_\w+)\(([^;{]*?)\);", text, re.M):
-        unused = "".join(f"(void){word}; " for word in re.findall(r"(\w+)(?:,|$)", call[3]))
+        unused = "".join(f"(void){word}; " for word in re.findall(r"(\w+)(?:,|$)", call[3]) if word != "void")
         yield f"{call[0][:-1]} {{ {unused}{'return;' if call[1] == 'void' else 'return NAVD_OK;'} }}"
 
 

@@ -103,6 +103,8 @@ def faults(work):
     yield whole, program(work / "wrong", played.replace("180", "181")), TOP, "cc", "bin/navd plays examples/detour.nav in another way"
     yield whole, right, copied(work / "header", "include/navd.h", "uint32_t cx, cz, r,", "uint32_t cz, cx, r,"), "cc", "tools/header.py --check"
     yield whole, right, copied(work / "version", "VERSION", "0.1", "0.2"), "cc", "hosts/rust/Cargo.toml has another version"
+    told = copied(work / "told", "include/navd.h", "#define NAVD_VERSION 100u", "#define NAVD_VERSION 101u")
+    yield whole, right, told, "cc", "include/navd.h has another version than VERSION"
     if shutil.which("abidiff"):
         moved = copied(work / "abi", "tools/release/navd.abi", "size-in-bits='192'", "size-in-bits='128'")
         yield whole, right, moved, "cc", "the header has other types"

@@ -18,9 +18,9 @@ sys.dont_write_bytecode = True
 import header
 
 SOURCES = [path for folder in header.LIBRARY for path in sorted((TOP / folder).glob("*.rt"))]
-FILES = [header.HEADER, header.RUST, header.PYTHON, header.CSHARP, header.CPP, *(str(path.relative_to(TOP)) for path in SOURCES)]
+FILES = [header.HEADER, header.RUST, header.PYTHON, header.CSHARP, header.CPP, header.VERSION, *(str(path.relative_to(TOP)) for path in SOURCES)]
 PLACES = {"header": "include/", "library": "crates/", "rust": "hosts/rust/", "python": "hosts/python/", "csharp": "hosts/csharp/",
-          "cpp": "hosts/cpp/"}
+          "cpp": "hosts/cpp/", "file": "VERSION"}
 
 # The place, what stands there, what is put in its stead, and what is told of it.
 ROWS = [
@@ -60,6 +60,12 @@ ROWS = [
     ("rust", "pub const BUSY: u32 = 17;", "", "the number BUSY is missing"),
     ("python", "NO_START, NO_GOAL, NO_PATH, WALL, NO_ROOM, \\", "NO_START, NO_GOAL, WALL, NO_PATH, NO_ROOM, \\",
      "NO_PATH is 13, the header has 12"),
+    # the version
+    ("header", "#define NAVD_VERSION 100u", "#define NAVD_VERSION 101u", "VERSION is 100, the header has 101"),
+    ("file", "0.1.0", "0.2.0", "VERSION: the version is 200, the header has 100"),
+    ("library", "pub const VERSION: u32 = 100;", "pub const VERSION: u32 = 99;", "VERSION is 99, the header has 100"),
+    ("csharp", "public const uint Wanted = 100;", "public const uint Wanted = 99;", "VERSION is 99, the header has 100"),
+    ("cpp", "navd_version() == NAVD_VERSION", "navd_version() == 100", "the number VERSION is missing"),
     # parameters
     ("header", "uint32_t navd_floors(navd_level *level, uint32_t x, uint32_t z,",
      "uint32_t navd_floors(navd_level *level, uint32_t z, uint32_t x,", "parameter 2 of navd_floors is x: u32, the header has z: u32"),
@@ -90,16 +96,17 @@ ROWS = [
     ("python", '        "navd_remove": [handle, c_uint32, number],\n', "", "the call navd_remove is missing"),
     ("python", "found.navd_close, found.navd_view_close,", "found.navd_close,", "the call navd_view_close is missing"),
     # what has another form
-    ("header", "#define NAVD_BUSY 17u", "#define NAVD_BUSY (16u + 1u)", "of 19 places like"),
+    ("header", "#define NAVD_BUSY 17u", "#define NAVD_BUSY (16u + 1u)", "of 23 places like"),
     ("library", "#[repr(C)]\n#[derive(Clone, Copy)]\npub struct NavdRay", "#[repr(C, packed)]\n#[derive(Clone, Copy)]\npub struct NavdRay",
-     "of 23 places like"),
+     "of 31 places like"),
     # C#: each kind of difference once more
     ("csharp", "public uint Tile, Index;", "public uint Index, Tile;", "field 1 of polygon is index: u32, the header has tile: u32"),
     ("csharp", "internal UIntPtr Links, Turns;", "internal ulong Links, Turns;",
      "field 3 of path is links: u64, the header has links: usize"),
-    ("csharp", "Fourth, Fifth, Sixth;", "Fourth, Fifth;", "field 2 of face is corner: [corner; 5], the header has corner: [corner; 6]"),
+    ("csharp", "Corner First, Second, Third, Fourth, Fifth, Sixth;", "Corner First, Second, Third, Fourth, Fifth;",
+     "field 2 of face is corner: [corner; 5], the header has corner: [corner; 6]"),
     ("csharp", "internal struct NavdHop", "internal struct NavdWalk", "the struct walk is not in the header"),
-    ("csharp", "    [StructLayout(LayoutKind.Sequential)]\n    public struct Ray", "    public struct Ray", "of 21 places like"),
+    ("csharp", "    [StructLayout(LayoutKind.Sequential)]\n    public struct Ray", "    public struct Ray", "of 29 places like"),
     ("csharp", "Wall = 13,", "Wall = 12,", "WALL is 12, the header has 13"),
     ("csharp", "        Busy = 17,\n", "", "the number BUSY is missing"),
     ("csharp", "navd_claim(LevelHandle level, JobHandle job,", "navd_claim(JobHandle job, LevelHandle level,",
@@ -112,7 +119,7 @@ ROWS = [
     ("csharp", "        [DllImport(Library)]\n        internal static extern Status navd_prepare(LevelHandle level);\n", "",
      "the call navd_prepare is missing"),
     ("csharp", "[DllImport(Library)]\n        internal static extern Status navd_aim",
-     '[DllImport("other")]\n        internal static extern Status navd_aim', "of 43 places like"),
+     '[DllImport("other")]\n        internal static extern Status navd_aim', "of 52 places like"),
     # C++: its compiler compares the rest
     ("cpp", "navd_view_find_hop;", "navd_find_hop;", "the call navd_view_find_hop is missing"),
     ("cpp", "stale = NAVD_STALE, ", "", "the number STALE is missing"),
@@ -158,7 +165,7 @@ class Comparing(unittest.TestCase):
     def test_all_agree(self):
         ran = self.run_tool("--check")
         self.assertEqual((ran.returncode, ran.stderr), (0, ""), ran.stdout)
-        self.assertRegex(ran.stdout, r"^the header, the library, .* alike: 43 calls .*, 23 structs .*, 19 status numbers\n$")
+        self.assertRegex(ran.stdout, r"^the header, the library, .* alike: 52 calls .*, 31 structs .*, 22 status numbers and the version\n$")
 
     def test_each_change_is_told(self):
         for place, old, new, due in ROWS:

@@ -18,7 +18,7 @@ use Rattle.contour_mesh.proofs.NumberedLaws.{numbered-append, numbered-take, num
 abbrev pub facets_to : List RegionPart → ℕ → List Facet
 facets_to parts n = numbered facets_at 0 (take n parts)
 
-facets_more : (parts : List RegionPart) (k : ℕ) (part : RegionPart) → k < length parts → part ≡ get_or parts k part
+pub facets_more : (parts : List RegionPart) (k : ℕ) (part : RegionPart) → k < length parts → part ≡ get_or parts k part
     → facets_to parts (k + 1) ≡ facets_to parts k ++ facets_in part k
 facets_more parts k part there is =
     numbered_more facets_at 0 parts k part there

@@ -5,6 +5,7 @@ pub mod DoorLaws
 pub mod Steps
 pub mod PartLaws
 pub mod DoorSteps
+pub mod StoreyLaws
 pub mod FacingLaws
 pub mod PlaceLaws
 pub mod SearchLaws

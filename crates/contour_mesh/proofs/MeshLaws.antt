@@ -18,7 +18,8 @@ use Rattle.mesh_types.specs.declared.region.PortalEdge.{PortalEdge}
 use Rattle.mesh_types.specs.declared.polygon.Polygon.{Polygon}
 use Rattle.mesh_types.specs.declared.links.Link.{Link}
 use Rattle.mesh_types.specs.declared.mesh.RimEdge.{RimEdge}
-use Rattle.mesh_types.specs.ContourMeshes.{contour_mesh_of, parts_mesh}
+use Rattle.mesh_types.specs.ContourMeshes.{contour_mesh_of, part_storeys, parts_mesh}
+use Rattle.mesh_types.specs.Storeys.{TileStoreys}
 use Rattle.mesh_types.specs.Doors.{door_links, doors_of}
 use Rattle.mesh_types.specs.DoorRim.{door_rim}
 use Rattle.mesh_types.specs.Facets.{facet_polygon, facets_of}
@@ -80,22 +81,16 @@ module _ (setting : Setting) (free : FreeLayer) (cut : IsCut free.cells) (in_til
 
 -- a mesh that is made part by part
 pub mesh_of_parts : (setting : Setting) (free : FreeLayer) (regions : Regions) (parts : List RegionPart) (window : Window) (lent : List Cell) (doors : List PortalEdge)
-    (polys : List Polygon) (links : List Link) (rim : List RimEdge) → window ≡ tile_window setting free.tile → lent ≡ free.cells → doors ≡ doors_of (facets_of parts)
-    → polys ≡ map (facet_polygon lent regions) (facets_of parts) → links ≡ door_links free.tile doors → rim ≡ door_rim window lent regions doors
-    → record { tile = free.tile; free = free; polys = polys; links = links; rim = rim } ≡ parts_mesh setting free regions parts
+    (polys : List Polygon) (links : List Link) (rim : List RimEdge) (storeys : TileStoreys) → window ≡ tile_window setting free.tile → lent ≡ free.cells
+    → doors ≡ doors_of (facets_of parts) → polys ≡ map (facet_polygon lent regions) (facets_of parts) → links ≡ door_links free.tile doors
+    → rim ≡ door_rim window lent regions doors → storeys ≡ part_storeys lent regions parts
+    → record { tile = free.tile; free = free; polys = polys; links = links; rim = rim; storeys = storeys } ≡ parts_mesh setting free regions parts
 unfolding parts_mesh
-mesh_of_parts setting free regions parts window lent doors polys links rim window_is lent_is doors_is polys_are links_are rim_is =
-    ap (λ (ps : List Polygon). record { tile = free.tile; free = free; polys = ps; links = links; rim = rim })
-    (polys_are ∙ ap (λ (cells : List Cell). map (facet_polygon cells regions) (facets_of parts)) lent_is)
-    ∙ ap (λ (ls : List Link). record { tile = free.tile; free = free; polys = map (facet_polygon free.cells regions) (facets_of parts); links = ls; rim = rim })
-    (links_are ∙ ap (door_links free.tile) doors_is)
-    ∙ ap (λ (r : List RimEdge). record {
-      tile = free.tile;
-      free = free;
-      polys = map (facet_polygon free.cells regions) (facets_of parts);
-      links = door_links free.tile (doors_of (facets_of parts));
-      rim = r;
-    })
-    (rim_is ∙ ap (λ (w : Window). door_rim w lent regions doors) window_is
+mesh_of_parts setting free regions parts window lent doors polys links rim storeys window_is lent_is doors_is polys_are links_are rim_is storeys_are =
+    let polys' = polys_are ∙ ap (λ (cells : List Cell). map (facet_polygon cells regions) (facets_of parts)) lent_is in
+    let links' = links_are ∙ ap (door_links free.tile) doors_is in
+    let rim' = rim_is ∙ ap (λ (w : Window). door_rim w lent regions doors) window_is
     ∙ ap (λ (cells : List Cell). door_rim (tile_window setting free.tile) cells regions doors) lent_is
-    ∙ ap (door_rim (tile_window setting free.tile) free.cells regions) doors_is)
+    ∙ ap (door_rim (tile_window setting free.tile) free.cells regions) doors_is in
+    let storeys' = storeys_are ∙ ap (λ (cells : List Cell). part_storeys cells regions parts) lent_is in
+    λ i. record { tile = free.tile; free = free; polys = polys' i; links = links' i; rim = rim' i; storeys = storeys' i }

@@ -29,6 +29,7 @@ use crate::links::door_links;
 use crate::parts::{footings, parts};
 use crate::polygons::polygons;
 use crate::rim::door_rim;
+use crate::storeys::storeys;
 use contour_walk::{RegionRim, RegionTable, region_table_over};
 use mesh_types::{Links, Polygons, PortalEdge, RegionPart, Regions, RimEdge, TileMesh};
 use mono_regions::{StripIndex, StripTable, regions_over, tabled_strips};
@@ -142,6 +143,7 @@ fn mesh(
 ) -> Result<TileMesh, AllocError>
     requires cells { IsCells free.cells }
     requires regions { AreRegionsOf free.cells regions.now }
+    requires all { regions.now ≡ regions_of free.cells }
     requires table { IsTableOf free.cells regions.now.regions table.now }
     requires window { IsFieldWindow table.now.window }
     requires parts { All IsCutPart parts.now }
@@ -158,12 +160,14 @@ fn mesh(
     let polys = part_polygons(alloc, source, parts)?;
     let count = polys.len() as u32;
     let DoorLinks { links, rim } = part_ways(alloc, source, parts, free.tile, count)?;
+    let storeys = storeys(alloc, source, parts)?;
     Ok(TileMesh {
         tile: free.tile,
         free: PackedFreeLayer::own(free),
         polys,
         links,
         rim,
+        storeys,
     })
 }
 

@@ -20,5 +20,6 @@ mod links;
 mod parts;
 mod polygons;
 mod rim;
+mod storeys;
 
 pub use build::{ContourMesh, contour_mesh_over};

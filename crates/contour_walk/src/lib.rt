@@ -13,4 +13,5 @@ mod round;
 mod sides;
 
 pub use codes::{RegionRim, RegionTable, is_crossing, region_table, region_table_over};
+pub use owners::{index_of, left_end_over, next, place_in};
 pub use round::{contour, contour_over};

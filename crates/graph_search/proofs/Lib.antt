@@ -6,6 +6,9 @@ pub mod Relaxing
 pub mod Stopping
 pub mod WayBack
 pub mod Turns
+pub mod ReachedLists
+mod Listing
+pub mod ReachedWalks
 pub mod Moves
 mod Slots
 mod Lists

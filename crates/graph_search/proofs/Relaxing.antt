@@ -107,9 +107,6 @@ module _ (vertices : List Vertex) (arcs : Vertex → List Arc) (estimate : Verte
             | inr kept ↦ ap (λ (u : Visit). u.rank) kept.1
           ]
 
-      pub ranks-kept : KeepsRanks at at'
-      ranks-kept = record { same = same_rank }
-
       -- nothing changes of a closed vertex
       kept-closed : (v : Vertex) → IsClosed (at v) → at' v ≡ at v
       kept-closed v is_closed =
@@ -122,6 +119,9 @@ module _ (vertices : List Vertex) (arcs : Vertex → List Arc) (estimate : Verte
 
       pub kept-cost : (v : Vertex) → IsClosed (at v) → (at' v).cost ≡ (at v).cost
       kept-cost v is_closed = ap (λ (u : Visit). u.cost) (kept-closed v is_closed)
+
+      pub ranks-kept : KeepsRanks at at'
+      ranks-kept = record { same = same_rank; costs = kept-cost }
 
       -- no cost rises
       cost_no_more : (v : Vertex) → (at' v).cost ≤ (at v).cost
@@ -292,7 +292,10 @@ following-then vertices arcs estimate heaviest vertex closed before waited at wa
   closing = next.closing;
   relaxing = next.relaxing;
   tree = λ start tree. next.tree start (first.tree start tree);
-  ranks = record { same = λ v. next.ranks.same v ∙ first.ranks.same v };
+  ranks = record {
+    same = λ v. next.ranks.same v ∙ first.ranks.same v;
+    costs = λ v is_closed. next.ranks.costs v (omega (arith, is_closed, first.ranks.same v)) ∙ first.ranks.costs v is_closed;
+  };
   cost = next.cost ∙ first.cost;
   more = omega (arith, first.more, next.more);
 }
@@ -307,7 +310,7 @@ following-none vertices arcs estimate heaviest vertex closed at waiting known cl
   closing = closing;
   relaxing = relaxing;
   tree = λ start tree. tree;
-  ranks = record { same = λ v. refl };
+  ranks = record { same = λ v. refl; costs = λ v is_closed. refl };
   cost = refl;
   more = omega arith;
 }
@@ -349,7 +352,7 @@ module _ (vertices : List Vertex) (arcs : Vertex → List Arc) (estimate : Verte
           relaxing-no_less vertices arcs estimate heaviest searchable vertex member place below at (closed * heaviest) closing limit-fits relaxing
           (subst (λ (v : Vertex). (at v).cost ≤ (at vertex).cost + (arc_of arcs own_step).weight) (sym enters) no_less);
       tree = λ start tree. tree;
-      ranks = record { same = λ v. refl };
+      ranks = record { same = λ v. refl; costs = λ v is_closed. refl };
       cost = refl;
       more = omega arith;
     }

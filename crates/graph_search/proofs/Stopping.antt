@@ -1,5 +1,5 @@
 -- Where a search stops: no walk is cheaper, or there is none.
-use Rattle.std.proofs.Common.{◌≡◌, ℕ, ◌+◌, ◌≤◌, List, [], ◌∷◌, sym, subst, ap, inl, inr, arith}
+use Rattle.std.proofs.Common.{◌≡◌, ℕ, ◌+◌, ◌<◌, ◌≤◌, List, [], ◌∷◌, sym, subst, ap, inl, inr, arith}
 use Rattle.std.specs.Prelude.{Contains, All}
 use Rattle.graph_search.specs.declared.radix_heap.HeapEntry.{HeapEntry}
 use Rattle.std.proofs.lemmas.Bool.{cases_eq}
@@ -52,6 +52,31 @@ module _ (vertices : List Vertex) (arcs : Vertex → List Arc) (estimate : Verte
               let rest = none_cheaper key is least steps (arc_of arcs step).to (n + (arc_of arcs step).weight) first.seen
               (omega (arith, first.no_less, cost, no_more)) walk.2 in
               omega (arith, rest, cost_of-cons arcs step steps)
+        ]
+
+    -- where no key that waits is less than a number, a vertex with a walk whose cost and estimate are less is closed
+    pub closed_within : (key : ℕ) → All (λ (e : HeapEntry). key ≤ e.key) waiting
+        → (steps : List Step) (v : Vertex) (n : ℕ) → IsSeen (at v) → (at v).cost ≤ n → Walks arcs v steps to → n + cost_of arcs steps + estimate to < key → IsClosed (at to)
+    closed_within key least [] v n seen no_more walk below =
+        elim (cases_eq (at v).rank 0) [
+          | inl unclosed ↦
+              let own = All-contains (λ (e : HeapEntry). key ≤ e.key) waiting (entry ((at v).cost + estimate v) v) least (known.waits v seen unclosed) in
+              let falls = estimate_falls [] v to (known.there v seen) walk in
+              absurd (omega (arith, own, falls, no_more, below))
+          | inr some ↦ subst (λ (u : Vertex). IsClosed (at u)) walk (omega (arith, some))
+        ]
+    closed_within key least (step ∷ steps) v n seen no_more walk below =
+        elim (cases_eq (at v).rank 0) [
+          | inl unclosed ↦
+              let own = All-contains (λ (e : HeapEntry). key ≤ e.key) waiting (entry ((at v).cost + estimate v) v) least (known.waits v seen unclosed) in
+              let falls = estimate_falls (step ∷ steps) v to (known.there v seen) walk in
+              absurd (omega (arith, own, falls, no_more, below))
+          | inr some ↦
+              let same : (at step.from).rank ≡ (at v).rank = ap (λ (u : Vertex). (at u).rank) walk.0 in
+              let cost : (at step.from).cost ≡ (at v).cost = ap (λ (u : Vertex). (at u).cost) walk.0 in
+              let first = relaxed.each step.from (omega (arith, some, same)) step.place walk.1 in
+              closed_within key least steps (arc_of arcs step).to (n + (arc_of arcs step).weight) first.seen (omega (arith, first.no_less, cost, no_more)) walk.2
+              (omega (arith, below, cost_of-cons arcs step steps))
         ]
 
   -- where no vertex waits, a walk from a vertex seen leads to closed ones alone

@@ -1,6 +1,6 @@
 -- The turns of a search, whole.
 use Rattle.std.proofs.Common.{◌≡◌, ◌≢◌, ℕ, ◌+◌, ◌*◌, ◌<◌, ◌≤◌, List, [], ◌∷◌, length, get_or, refl, sym, subst, ap, ◌∙◌, inl, inr, arith}
-use Rattle.std.specs.Prelude.{Contains, All, ◌==◌, if◌then◌else◌, Option, Some, None, IfNone}
+use Rattle.std.specs.Prelude.{Contains, All, ◌==◌, if◌then◌else◌, Option, Some, None, IfNone, IfSome}
 use Rattle.std.specs.List.Sorted.{IsPermutation}
 use Rattle.graph_search.specs.declared.radix_heap.HeapEntry.{HeapEntry}
 use Rattle.std.proofs.lemmas.Nat.{mul-le}
@@ -28,13 +28,23 @@ pub none_left : {X : Type 0} (found : Option X) (P : Type 0) → ((x : X) → fo
 none_left None P no_some held = held
 none_left (Some x) P no_some held = absurd (no_some x refl)
 
--- what holds between two turns: the tree, what is known, the goal is not closed, and no more vertices are closed than there are
-pub record IsBetween (vertices : List Vertex) (arcs : Vertex → List Arc) (estimate : Vertex → ℕ) (heaviest : ℕ) (start to : Vertex)
+-- what is said of the entry that was taken
+pub taken_of : (found : Option HeapEntry) (first : HeapEntry) (old new : List HeapEntry) → found ≡ Some first → IfSome found (λ e. IsPermutation old (e ∷ new)) → IsPermutation old (first ∷ new)
+taken_of found first old new is held = subst (λ (f : Option HeapEntry). IfSome f (λ e. IsPermutation old (e ∷ new))) is held
+
+pub least_of : (found : Option HeapEntry) (first : HeapEntry) (old : List HeapEntry) → found ≡ Some first → IfSome found (λ e. All (λ (other : HeapEntry). e.key ≤ other.key) old)
+    → All (λ (other : HeapEntry). first.key ≤ other.key) old
+least_of found first old is held = subst (λ (f : Option HeapEntry). IfSome f (λ e. All (λ (other : HeapEntry). e.key ≤ other.key) old)) is held
+
+pub last_of : (found : Option HeapEntry) (first : HeapEntry) (last : ℕ) → found ≡ Some first → IfSome found (λ e. last ≡ e.key) → last ≡ first.key
+last_of found first last is held = subst (λ (f : Option HeapEntry). IfSome f (λ e. last ≡ e.key)) is held
+
+-- what holds between two turns: the tree, what is known, and no more vertices are closed than there are
+pub record IsBetween (vertices : List Vertex) (arcs : Vertex → List Arc) (estimate : Vertex → ℕ) (heaviest : ℕ) (start : Vertex)
     (at : Vertex → Visit) (waiting : List HeapEntry) (closed : ℕ) : Type 0 where
   pub tree : IsTree arcs start at
   pub known : IsKnown vertices estimate at waiting (closed * heaviest) closed
   pub relaxed : AllRelaxed arcs at
-  pub goal : (at to).rank ≡ 0
   pub few : closed + sum_open (λ v. 1) at vertices ≤ length vertices
 
 -- how much is left to do at most: entries, and arcs of vertices not closed
@@ -54,10 +64,10 @@ one n =
     ]
 
 -- at the beginning
-pub between-begun : (vertices : List Vertex) (arcs : Vertex → List Arc) (estimate : Vertex → ℕ) (heaviest : ℕ) (start to : Vertex) (at : Vertex → Visit)
+pub between-begun : (vertices : List Vertex) (arcs : Vertex → List Arc) (estimate : Vertex → ℕ) (heaviest : ℕ) (start : Vertex) (at : Vertex → Visit)
     (waiting : List HeapEntry) (key closed : ℕ) → Contains vertices start → IsBegun start at → key ≡ estimate start → IsPermutation (entry key start ∷ []) waiting → closed ≡ 0
-    → IsBetween vertices arcs estimate heaviest start to at waiting closed
-between-begun vertices arcs estimate heaviest start to at waiting key closed member begun is waits none = record {
+    → IsBetween vertices arcs estimate heaviest start at waiting closed
+between-begun vertices arcs estimate heaviest start at waiting key closed member begun is waits none = record {
   tree = record {
     begins = begun.begins;
     steps = λ v seen. inl (begun.only v seen);
@@ -76,7 +86,6 @@ between-begun vertices arcs estimate heaviest start to at waiting key closed mem
     ranks = λ v. omega (arith, begun.unclosed v);
   };
   relaxed = record { each = λ v is_closed. absurd (omega (arith, is_closed, begun.unclosed v)) };
-  goal = begun.unclosed to;
   few =
       let ones = sum_by-le (λ (v : Vertex). if (at v).rank == 0 then 1 else 0) 1 vertices (λ k d below. one (at (get_or vertices k d)).rank) in
       omega (arith, ones, none);
@@ -90,16 +99,16 @@ between-begun vertices arcs estimate heaviest start to at waiting key closed mem
         subst (Contains (entry key start ∷ [])) same' (contains_first (entry key start) [])
 
 module _ (vertices : List Vertex) (arcs : Vertex → List Arc) (estimate : Vertex → ℕ) (heaviest : ℕ) (searchable : IsSearchable vertices arcs estimate heaviest)
-    (start to : Vertex) (at : Vertex → Visit) (waiting : List HeapEntry) (closed : ℕ) (between : IsBetween vertices arcs estimate heaviest start to at waiting closed) where
+    (start : Vertex) (at : Vertex → Visit) (waiting : List HeapEntry) (closed : ℕ) (between : IsBetween vertices arcs estimate heaviest start at waiting closed) where
   -- the start was seen
   start-seen : IsSeen (at start)
   start-seen = omega (arith, between.tree.begins)
 
   -- where no vertex waits, there is no walk
-  pub apart : waiting ≡ [] → IsApart arcs start to
-  apart none =
+  pub apart : (to : Vertex) → (at to).rank ≡ 0 → waiting ≡ [] → IsApart arcs start to
+  apart to goal none =
       none_apart vertices arcs estimate heaviest searchable at (closed * heaviest) closed
-      (subst (λ (entries : List HeapEntry). IsKnown vertices estimate at entries (closed * heaviest) closed) none between.known) between.relaxed to between.goal start start-seen
+      (subst (λ (entries : List HeapEntry). IsKnown vertices estimate at entries (closed * heaviest) closed) none between.known) between.relaxed to goal start start-seen
 
   module _ (key : ℕ) (vertex : Vertex) (rest : List HeapEntry) (taken : IsPermutation waiting (entry key vertex ∷ rest)) where
     one_fewer : length waiting ≡ length rest + 1
@@ -108,12 +117,11 @@ module _ (vertices : List Vertex) (arcs : Vertex → List Arc) (estimate : Verte
         omega (arith, same)
 
     -- an entry of a vertex closed before is dropped
-    pub between-dropped : IsClosed (at vertex) → IsBetween vertices arcs estimate heaviest start to at rest closed
+    pub between-dropped : IsClosed (at vertex) → IsBetween vertices arcs estimate heaviest start at rest closed
     between-dropped is_closed = record {
       tree = between.tree;
       known = known-dropped vertices estimate at waiting rest (closed * heaviest) closed key vertex between.known taken is_closed;
       relaxed = between.relaxed;
-      goal = between.goal;
       few = between.few;
     }
 
@@ -138,9 +146,9 @@ module _ (vertices : List Vertex) (arcs : Vertex → List Arc) (estimate : Verte
           omega (arith, some, between.few)
 
       -- where the vertex is the goal, its cost is that of the cheapest walks
-      pub cheapest : vertex ≡ to → (at' : Vertex → Visit) → IsWritten at vertex (closed_as (closed + 1) (at vertex)) at' → (walk : Walk) → IsWalkTo arcs at' start to walk
+      pub cheapest : (to : Vertex) → vertex ≡ to → (at' : Vertex → Visit) → IsWritten at vertex (closed_as (closed + 1) (at vertex)) at' → (walk : Walk) → IsWalkTo arcs at' start to walk
           → IsCheapest arcs start to walk × (walk.cost ≤ length vertices * heaviest)
-      cheapest is at' written walk found =
+      cheapest to is at' written walk found =
           let key_is : key ≡ (at to).cost + estimate to =
           subst (λ (v : Vertex). key ≡ (at v).cost + estimate v) is vertex-key in
           let cost : walk.cost ≡ (at to).cost =
@@ -194,15 +202,18 @@ module _ (vertices : List Vertex) (arcs : Vertex → List Arc) (estimate : Verte
 
         module _ (at'' : Vertex → Visit) (waiting' : List HeapEntry) (ranks : KeepsRanks at' at'') where
           -- the arcs were followed
-          pub between-turned : vertex ≢ to → IsTree arcs start at'' → IsKnown vertices estimate at'' waiting' (closed' * heaviest) closed' → AllRelaxed arcs at''
-              → IsBetween vertices arcs estimate heaviest start to at'' waiting' closed'
-          between-turned differ tree known relaxed = record {
+          pub between-turned : IsTree arcs start at'' → IsKnown vertices estimate at'' waiting' (closed' * heaviest) closed' → AllRelaxed arcs at''
+              → IsBetween vertices arcs estimate heaviest start at'' waiting' closed'
+          between-turned tree known relaxed = record {
             tree = tree;
             known = known;
             relaxed = relaxed;
-            goal = ranks.same to ∙ ap (λ (u : Visit). u.rank) (written.others to (λ is. differ (sym is))) ∙ between.goal;
             few = omega (arith, next, between.few, fewer_open (λ v. 1), sum_open-kept (λ v. 1) at' at'' vertices ranks);
           }
+
+          -- another vertex that was not closed still is not
+          pub goal-turned : (to : Vertex) → vertex ≢ to → (at to).rank ≡ 0 → (at'' to).rank ≡ 0
+          goal-turned to differ goal = ranks.same to ∙ ap (λ (u : Visit). u.rank) (written.others to (λ is. differ (sym is))) ∙ goal
 
           pub work-turned : length waiting' ≤ length rest + length (arcs vertex) → work vertices arcs at'' waiting' < work vertices arcs at waiting
           work-turned more = omega (arith, more, one_fewer, fewer_open (λ v. length (arcs v)), sum_open-kept (λ v. length (arcs v)) at' at'' vertices ranks)

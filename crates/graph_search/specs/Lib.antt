@@ -2,3 +2,5 @@ pub mod Walks
 pub mod Entries
 pub mod Visited
 pub mod Searching
+pub mod Explored
+pub mod Exploring

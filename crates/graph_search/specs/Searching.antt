@@ -68,9 +68,10 @@ pub record AreBeingRelaxed (arcs : Vertex → List Arc) (at : Vertex → Visit) 
   pub others : (v : Vertex) → v ≢ vertex → IsClosed (at v) → AreRelaxed arcs at v (length (arcs v))
   pub first : AreRelaxed arcs at vertex count
 
--- no rank has changed
+-- no rank has changed, nor the cost of a closed vertex
 pub record KeepsRanks (old new : Vertex → Visit) : Type 0 where
   pub same : (v : Vertex) → (new v).rank ≡ (old v).rank
+  pub costs : (v : Vertex) → IsClosed (old v) → (new v).cost ≡ (old v).cost
 
 -- the first arcs of a vertex were followed: what holds from then on, and what has changed since something was known before
 pub record IsFollowing (vertices : List Vertex) (arcs : Vertex → List Arc) (estimate : Vertex → ℕ) (heaviest : ℕ) (vertex : Vertex) (closed : ℕ)

@@ -54,9 +54,9 @@ pub fn cheapest_walk<G: Graph>(
 
 /// A vertex that was just closed, and what it costs.
 #[derive(Clone, Copy)]
-struct ClosedVertex {
-    vertex: Vertex,
-    cost: u64,
+pub(crate) struct ClosedVertex {
+    pub(crate) vertex: Vertex,
+    pub(crate) cost: u64,
 }
 
 /// A step from a vertex that was just closed, and what that vertex costs.
@@ -68,16 +68,16 @@ struct Stride {
 
 /// The state of a search.
 #[derive(Drop)]
-struct Search {
-    visits: Visits,
-    waiting: RadixHeap,
+pub(crate) struct Search {
+    pub(crate) visits: Visits,
+    pub(crate) waiting: RadixHeap,
     /// How many vertices were closed.
-    closed: usize,
+    pub(crate) closed: usize,
 }
 
 impl Search {
     /// A search from a vertex, with the estimate of what is left to go from there.
-    fn begin(alloc: Global, from: Vertex, estimate: u64) -> Result<Self, AllocError>
+    pub(crate) fn begin(alloc: Global, from: Vertex, estimate: u64) -> Result<Self, AllocError>
         ensures begun { IfOk result (λ search. IsBegun from (visit_at search.visits)) }
         ensures waiting { IfOk result (λ search. IsPermutation (entry estimate from ∷ []) search.waiting.entries) }
         ensures closed { IfOk result (λ search. search.closed ≡ 0) }
@@ -94,7 +94,7 @@ impl Search {
     }
 
     /// Closes a vertex.
-    fn close(&mut self, alloc: Global, vertex: Vertex) -> Result<(), AllocError>
+    pub(crate) fn close(&mut self, alloc: Global, vertex: Vertex) -> Result<(), AllocError>
         requires { self.old.closed + 1 < 2 ^ 64 }
         ensures closed { OnOk result (self.new.closed ≡ self.old.closed + 1) }
         ensures written { OnOk result (IsWritten (visit_at self.old.visits) vertex
@@ -108,7 +108,7 @@ impl Search {
     }
 
     /// Follows the arcs of a vertex that was just closed. The ends are room to work in.
-    fn relax<G: Graph>(
+    pub(crate) fn relax<G: Graph>(
         &mut self,
         alloc: Global,
         graph: &G,

@@ -1,5 +1,5 @@
 mod NearestLaws
 mod TileReach
-mod Boxes
-mod Reached
+pub mod Boxes
+pub mod Reached
 mod Scans

@@ -4,6 +4,7 @@ use Rattle.std.specs.Option.{option_map}
 use Rattle.nav_ground.specs.declared.setting.MeshKind.{MeshKind}
 use Rattle.nav_ground.specs.declared.setting.MeshKind.TheVariants.{Strips, Contours}
 use Rattle.nav_ground.specs.declared.setting.Setting.{Setting}
+use Rattle.nav_ground.specs.declared.cell.Cell.{Cell}
 use Rattle.nav_ground.specs.declared.cell.FreeLayer.{FreeLayer}
 use Rattle.nav_ground.specs.Tiling.{tile_window}
 use Rattle.mesh_types.specs.declared.region.Regions.{Regions}
@@ -12,11 +13,19 @@ use Rattle.mesh_types.specs.declared.mesh.TileMesh.{TileMesh}
 use Rattle.mesh_types.specs.StripMeshes.{strip_mesh_of}
 use Rattle.mesh_types.specs.Regions.{regions_of}
 use Rattle.mesh_types.specs.Parts.{parts_of}
-use Rattle.mesh_types.specs.Facets.{facets_of, facet_polygon}
+use Rattle.mesh_types.specs.Facets.{Facet, facets_of, facet_polygon}
 use Rattle.mesh_types.specs.Doors.{doors_of, door_links}
 use Rattle.mesh_types.specs.DoorRim.{door_rim}
+use Rattle.mesh_types.specs.Storeys.{TileStoreys, region_storey}
 
--- the mesh of a tile by the parts of its regions: a polygon for each piece, the links through the doors, and the rim
+-- the storeys of a tile by the parts of its regions: each polygon has that of its region
+abbrev pub part_storeys : List Cell → Regions → List RegionPart → TileStoreys
+part_storeys cells regions parts = record {
+  homes = map (λ (facet : Facet). facet.region) (facets_of parts);
+  list = map (region_storey cells) regions.regions;
+}
+
+-- the mesh of a tile by the parts of its regions: a polygon for each piece, the links through the doors, the rim, a storey for each region
 unfoldable pub parts_mesh : Setting → FreeLayer → Regions → List RegionPart → TileMesh
 parts_mesh setting free regions parts = record {
   tile = free.tile;
@@ -24,6 +33,7 @@ parts_mesh setting free regions parts = record {
   polys = map (facet_polygon free.cells regions) (facets_of parts);
   links = door_links free.tile (doors_of (facets_of parts));
   rim = door_rim (tile_window setting free.tile) free.cells regions (doors_of (facets_of parts));
+  storeys = part_storeys free.cells regions parts;
 }
 
 -- the mesh of a tile by the outlines of its regions, where each region has an outline that can be cut

@@ -21,6 +21,7 @@ pub mod Passages
 pub mod Regions
 pub mod Rings
 pub mod Contours
+pub mod Storeys
 pub mod Simplified
 pub mod Choices
 pub mod Rounds
@@ -49,6 +50,8 @@ pub mod Bends
 pub mod Taut
 pub mod Floors
 pub mod Rays
+pub mod Places
+pub mod Standing
 pub mod Right
 pub mod Stretches
 pub mod Hops

@@ -16,6 +16,7 @@ mod mesh;
 mod polygon;
 mod polygons;
 mod region;
+mod storeys;
 
 pub use answers::{
     Answer, Asked, Corner, Corridor, HopAnswer, HopFound, HopStep, Jump, PathFound, RayAnswer,
@@ -30,3 +31,4 @@ pub use region::{
     Code, LabelRun, Outline, Piece, PortalEdge, Region, RegionPart, Regions, Simplified, Strip,
     Triangle, UnitEdge, runs,
 };
+pub use storeys::{FloorRow, MeshPlace, Storey, Storeys, storey_of};

@@ -6,6 +6,7 @@ ghost use Rattle.mesh_types.specs.WholeMesh.{poly_at};
 use crate::links::{Links, PolyRef};
 use crate::polygon::Polygon;
 use crate::polygons::Polygons;
+use crate::storeys::Storeys;
 use nav_ground::{PackedFreeLayer, Setting, TileNo};
 use nav_lists::{Chunks, Duplicate, Items, Shared};
 use std::alloc::{AllocError, Global};
@@ -93,6 +94,8 @@ pub struct TileMesh {
     pub links: Links,
     /// Where its polygons reach the tile's border.
     pub rim: Items<RimEdge>,
+    /// The free cells by region or by strip, with their floors, and which of these is each polygon's own.
+    pub storeys: Storeys,
 }
 
 impl Duplicate for RimEdge {
@@ -115,6 +118,7 @@ impl Duplicate for TileMesh {
             polys: self.polys.duplicate(alloc)?,
             links: self.links.duplicate(alloc)?,
             rim: self.rim.duplicate(alloc)?,
+            storeys: self.storeys.duplicate(alloc)?,
         })
     }
 }

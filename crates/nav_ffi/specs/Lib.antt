@@ -7,3 +7,5 @@ pub mod Viewing
 pub mod Jobs
 pub mod Triangles
 pub mod Changing
+pub mod Version
+pub mod Shapes

@@ -4,17 +4,22 @@
 //! definition makes of it (`specs/Requests.antt`, `specs/Steps.antt`, `specs/Jobs.antt`, `specs/Renewing.antt`); a question leaves it as it
 //! was, and its status, its counts and what it leaves in the host's arrays are those of an answer that is right in the published mesh, or what
 //! there is to draw: the definitions stand in `nav_handle` with what crosses the border (`specs/Answers.antt`, `specs/Hopping.antt`,
-//! `specs/Walking.antt`, `specs/Looking.antt` there). How levels are opened stands in `specs/Opening.antt` and `specs/Triangles.antt`, what
-//! views show in `specs/Viewing.antt`, which tiles changed in `specs/Changing.antt`. No call asks anything of its numbers: those that are out of their limits are told so, and no others.
+//! `specs/Walking.antt`, `specs/Looking.antt` there), in `way_handle/specs` and in `place_handle/specs`. How levels are opened stands in
+//! `specs/Opening.antt` and `specs/Triangles.antt`, what views show in `specs/Viewing.antt`, which tiles changed in `specs/Changing.antt`, the
+//! version in `specs/Version.antt`. No call asks anything of its numbers: those that are out of their limits are told so, and no others.
 #![tactic(auto)]
 
 mod changes;
 mod jobs;
 mod looking;
 mod opening;
+mod places;
 mod questions;
 mod requests;
+mod shapes;
+mod version;
 mod views;
+mod ways;
 
 pub use changes::navd_changed_tiles;
 pub use jobs::{
@@ -23,13 +28,17 @@ pub use jobs::{
 };
 pub use looking::{navd_border_links, navd_inner_links, navd_obstacles, navd_polygons};
 pub use opening::{navd_close, navd_open, navd_open_triangles, navd_renew};
+pub use places::{navd_view_height, navd_view_is_place, navd_view_nearest};
 pub use questions::{
     navd_cast_ray, navd_count, navd_find_hop, navd_find_path, navd_floors, navd_march,
     navd_prepare, navd_send,
 };
 pub use requests::{navd_add_block, navd_add_cylinder, navd_remove};
+pub use shapes::{NavdDisc, NavdPrism, navd_add_disc, navd_add_prism};
+pub use version::navd_version;
 pub use views::{
     navd_look, navd_view_border_links, navd_view_cast_ray, navd_view_close, navd_view_count,
     navd_view_find_hop, navd_view_find_path, navd_view_floors, navd_view_inner_links,
     navd_view_march, navd_view_polygons, navd_view_send, navd_view_set_costs,
 };
+pub use ways::{navd_view_check_path, navd_view_flood, navd_view_plan};

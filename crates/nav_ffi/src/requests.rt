@@ -42,7 +42,7 @@ fn request(alloc: Global, level: &mut NavdLevel, request: Request) -> (u32, u32)
 }
 
 /// Adds an obstacle, if there is one: how that ends, and the number of the entry that it made, or 0.
-fn add(alloc: Global, level: &mut NavdLevel, shape: Option<Shape>) -> (u32, u32)
+pub(crate) fn add(alloc: Global, level: &mut NavdLevel, shape: Option<Shape>) -> (u32, u32)
     requires { IfSome shape IsShape }
     ensures added { IfSome shape (λ shape. IsRequested level.old.level level.new.level (Request.Add shape) result.0 result.1) }
     ensures none { IsNone shape → (result ≡ (status.out_of_range, 0)) × (level.new.level ≡ level.old.level) }

@@ -1,5 +1,5 @@
 -- The free cells of a layer keep the rules of cells.
-use Rattle.std.proofs.Common.{◌≡◌, ℕ, ◌+◌, ◌<◌, Bool, true, false, length, List, [], ◌∷◌, map, get_or, ap, ◌∙◌, sym, refl, subst, Option, Some, None, unwrap_or, arith, zero, suc, inl, inr}
+use Rattle.std.proofs.Common.{◌≡◌, ℕ, ◌+◌, ◌<◌, Bool, true, false, length, List, [], ◌∷◌, map, get_or, ap, ◌∙◌, sym, refl, subst, Option, Some, None, unwrap_or, arith, zero, suc, inl, inr, ◌≤◌}
 use Rattle.std.specs.Prelude.{All, Contains, IsTrue, ◌&&◌, ◌==◌, not, if◌then◌else◌}
 use Rattle.std.specs.List.{filter, filter_map, last_or, cons_option}
 use Rattle.std.specs.Option.{option_map_or}
@@ -12,14 +12,18 @@ use Rattle.nav_ground.specs.declared.cell.Cell.{Cell}
 use Rattle.nav_ground.specs.declared.cell.CellRef.{CellRef}
 use Rattle.nav_ground.specs.declared.cell.Layer.{Layer}
 use Rattle.nav_ground.specs.declared.shape.Shape.{Shape}
-use Rattle.nav_ground.specs.declared.shape.Shape.TheVariants.{Block, Cylinder, AreaBlock, AreaCylinder}
+use Rattle.nav_ground.specs.declared.shape.Shape.TheVariants.{Block, Cylinder, AreaBlock, AreaCylinder, Prism, Disc}
 use Rattle.nav_ground.specs.Limits.{IsArea, IsShape}
 use Rattle.nav_ground.specs.Cells.{IsCellBefore, IsCell, IsCells, IsCut, is_toward, is_naming, next_level, opposite}
-use Rattle.nav_ground.specs.Shapes.{area_set_by}
+use Rattle.nav_ground.specs.Shapes.{area_set_by, painted}
 use Rattle.nav_ground.specs.FreeCells.{is_over, is_taken, area_given, area_under, free_next, free_cell_of, free_layer_of}
 use Rattle.nav_ground.proofs.Words.{is_lost, is_free}
 use Rattle.nav_ground.proofs.Kept.{few_kept, AllPairs-map, All-kept}
 use Rattle.nav_ground.proofs.Directions.{both_equal}
+
+painted_area : (given area : ℕ) → given ≤ 63 → painted given ≡ Some area → IsArea area
+painted_area zero area small is = absurd cc
+painted_area (suc n) area small is = let same : suc n ≡ area = cc in record { least = omega (arith, same); most = omega (arith, same, small) }
 
 -- an area that a shape sets can be walked on
 set_area : (shape : Shape) (area : ℕ) → IsShape shape → area_set_by shape ≡ Some area → IsArea area
@@ -27,6 +31,8 @@ set_area (Block x0 x1 y0 y1 z0 z1) area rules' is = absurd cc
 set_area (Cylinder cx cz r y0 y1) area rules' is = absurd cc
 set_area (AreaBlock other x0 x1 y0 y1 z0 z1) area (rules', box) is = let same : other ≡ area = cc in subst IsArea same rules'
 set_area (AreaCylinder other cx cz r y0 y1) area (rules', round) is = let same : other ≡ area = cc in subst IsArea same rules'
+set_area (Prism base given y0 y1) area rules' is = painted_area given area rules'.area_most is
+set_area (Disc cx cz r given y0 y1) area rules' is = painted_area given area rules'.area_most is
 
 given_area : (shape : Shape) (area : ℕ) (over : Bool) → IsShape shape → (if over then area_set_by shape else None) ≡ Some area → IsArea area
 given_area shape area true rules' is = set_area shape area rules' is

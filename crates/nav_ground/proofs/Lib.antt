@@ -13,6 +13,9 @@ pub mod Connected
 pub mod CompactLaws
 pub mod LayerLaws
 pub mod AliveLaws
+pub mod BoxLaws
+pub mod PrismLaws
+pub mod DiscLaws
 pub mod ShapeLaws
 pub mod TouchLaws
 pub mod FreeLayers

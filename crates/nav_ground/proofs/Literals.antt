@@ -1,15 +1,16 @@
 -- The rules of values that are written out: a test by computation shows that they hold.
-use Rattle.std.proofs.Common.{◌≡◌, ℕ, ◌<◌, ◌≤◌, Bool, true, length, List, [], ◌∷◌, get_or, arith, zero, suc, inl, inr}
+use Rattle.std.proofs.Common.{◌≡◌, ℕ, ◌<◌, ◌≤◌, ℤ, pos, negsuc, Bool, true, false, refl, length, List, [], ◌∷◌, get_or, arith, zero, suc, inl, inr}
 use Rattle.std.proofs.lemmas.Bool.Decides.{nat_tests}
-use Rattle.std.specs.Prelude.{All, AllPairs, IsTrue, ◌&&◌, ◌||◌, ◌==◌, not, nat_lt, nat_le}
+use Rattle.std.specs.Prelude.{All, AllPairs, IsTrue, ◌&&◌, ◌||◌, ◌==◌, not, nat_lt, nat_le, int_le, ◌≤ℤ◌}
 use Rattle.std.specs.List.{list_all}
+use Rattle.std.proofs.lemmas.Int.{ints}
 use Rattle.std.proofs.lemmas.Bool.{and_parts, or_cases, both_ways, not-true, leb-true}
 use Rattle.std.proofs.lemmas.List.Elements.{All-nil, All-cons, All-weaker, All-contains}
 use Rattle.std.proofs.lemmas.List.Kept.{AllPairs-cons}
 use Rattle.nav_ground.specs.declared.cell.Cell.{Cell}
 use Rattle.nav_ground.specs.declared.cell.CellRef.{CellRef}
 use Rattle.nav_ground.specs.declared.shape.Shape.{Shape}
-use Rattle.nav_ground.specs.declared.shape.Shape.TheVariants.{Block, Cylinder, AreaBlock, AreaCylinder}
+use Rattle.nav_ground.specs.declared.shape.Shape.TheVariants.{Block, Cylinder, AreaBlock, AreaCylinder, Prism, Disc}
 use Rattle.nav_ground.specs.declared.field.Field.{Field}
 use Rattle.nav_ground.specs.declared.field.Span.{Span}
 use Rattle.nav_ground.specs.Fields.{IsField, IsSpan, IsSpanBefore, AreAreas}
@@ -112,17 +113,47 @@ is_round cx cz r y0 y1 = nat_le cx 2048 && nat_le cz 2048 && nat_le r 1023 && na
 abbrev pub is_area : ℕ → Bool
 is_area area = nat_le 1 area && nat_le area 63
 
+abbrev pub is_near : ℤ → Bool
+is_near n = int_le (negsuc 16383) n && int_le n (pos 81920)
+
+-- a prism's corners are not tested here: `prism_base` makes its base
 abbrev pub is_shape : Shape → Bool
 is_shape (Block x0 x1 y0 y1 z0 z1) = is_box x0 x1 y0 y1 z0 z1
 is_shape (Cylinder cx cz r y0 y1) = is_round cx cz r y0 y1
 is_shape (AreaBlock area x0 x1 y0 y1 z0 z1) = is_area area && is_box x0 x1 y0 y1 z0 z1
 is_shape (AreaCylinder area cx cz r y0 y1) = is_area area && is_round cx cz r y0 y1
+is_shape (Prism base area y0 y1) = false
+is_shape (Disc cx cz r area y0 y1) = is_near cx && is_near cz && nat_le 1 r && nat_le r 16384 && nat_le area 63 && nat_le y0 y1 && nat_le y1 8191
+
+le_shown : (a b : ℤ) → int_le a b ≡ true → a ≤ℤ b
+le_shown a b h = grind (arith, ints)
+
+near_shown : (n : ℤ) → is_near n ≡ true → (negsuc 16383 ≤ℤ n) × (n ≤ℤ pos 81920)
+near_shown n h = let parts = and_parts (int_le (negsuc 16383) n) _ h in (le_shown _ _ parts.0, le_shown _ _ parts.1)
 
 pub IsShape-shown : (shape : Shape) → is_shape shape ≡ true → IsShape shape
 IsShape-shown (Block x0 x1 y0 y1 z0 z1) h = grind (arith, nat_tests)
 IsShape-shown (Cylinder cx cz r y0 y1) h = grind (arith, nat_tests)
 IsShape-shown (AreaBlock area x0 x1 y0 y1 z0 z1) h = grind (arith, nat_tests)
 IsShape-shown (AreaCylinder area cx cz r y0 y1) h = grind (arith, nat_tests)
+IsShape-shown (Prism base area y0 y1) h = absurd (both_ways false refl h)
+IsShape-shown (Disc cx cz r area y0 y1) h =
+    let most = and_parts (is_near cx && is_near cz && nat_le 1 r && nat_le r 16384 && nat_le area 63 && nat_le y0 y1) (nat_le y1 8191) h in
+    let order = and_parts (is_near cx && is_near cz && nat_le 1 r && nat_le r 16384 && nat_le area 63) (nat_le y0 y1) most.0 in
+    let given = and_parts (is_near cx && is_near cz && nat_le 1 r && nat_le r 16384) (nat_le area 63) order.0 in
+    let far = and_parts (is_near cx && is_near cz && nat_le 1 r) (nat_le r 16384) given.0 in
+    let some = and_parts (is_near cx && is_near cz) (nat_le 1 r) far.0 in
+    let centre = and_parts (is_near cx) (is_near cz) some.0 in
+    let x = near_shown cx centre.0 in
+    let z = near_shown cz centre.1 in
+    record {
+      centre = record { left = x.0; right = x.1; bottom = z.0; top = z.1 };
+      r_least = leb-true 1 r some.1;
+      r_most = leb-true r 16384 far.1;
+      area_most = leb-true area 63 given.1;
+      y = leb-true y0 y1 order.1;
+      y_most = leb-true y1 8191 most.1;
+    }
 
 -- shapes that pass the test are within their limits
 pub shapes_shown : (shapes : List Shape) → list_all is_shape shapes ≡ true → All IsShape shapes

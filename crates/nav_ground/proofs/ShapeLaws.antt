@@ -1,15 +1,20 @@
 -- Laws of shapes: what they cover lies within their reach, and their reach is their bounds.
 use Rattle.std.proofs.Common.{◌≡◌, ℕ, ◌+◌, ◌*◌, ◌/◌, ◌≤◌, ◌↔◌, true, inl, inr, arith}
-use Rattle.std.specs.Prelude.{pos, ◌-ℤ◌, ◌≤ℤ◌}
+use Rattle.std.specs.Prelude.{pos, ◌+ℤ◌, ◌-ℤ◌, ◌≤ℤ◌}
 use Rattle.std.specs.Int.{div_ceil}
-use Rattle.std.proofs.lemmas.Bool.{cases_lt}
+use Rattle.std.proofs.lemmas.Bool.{cases_lt, and_parts, and_from}
 use Rattle.std.proofs.lemmas.Bool.Decides.{nat_tests}
 use Rattle.std.proofs.lemmas.Int.{ints}
 use Rattle.std.proofs.lemmas.Nat.{mul-lt}
 use Rattle.nav_ground.specs.declared.shape.Shape.{Shape}
-use Rattle.nav_ground.specs.declared.shape.Shape.TheVariants.{Block, Cylinder, AreaBlock, AreaCylinder}
+use Rattle.nav_ground.specs.declared.shape.Shape.TheVariants.{Block, Cylinder, AreaBlock, AreaCylinder, Prism, Disc}
 use Rattle.nav_ground.specs.Tiling.{IsInWindow}
-use Rattle.nav_ground.specs.Shapes.{IsIn, IsInDisc, Covers, is_covering, apart, block_window, disc_window, bounds_of, IsWithinReach}
+use Rattle.nav_ground.specs.Shapes.{IsIn, IsInDisc, Covers, is_covering, apart, block_window, disc_window, bounds_of, IsWithinReach, is_in}
+use Rattle.nav_ground.specs.Prisms.{corners_of, is_under_base}
+use Rattle.nav_ground.specs.Discs.{is_under_disc}
+use Rattle.nav_ground.proofs.BoxLaws.{box_reach, corners_reach}
+use Rattle.nav_ground.proofs.PrismLaws.{under_base_tells, under_base_in_box}
+use Rattle.nav_ground.proofs.DiscLaws.{under_disc_tells, under_disc_reached}
 
 -- a side of a right triangle is not longer than the longest one
 side_within : (a b reach : ℕ) → a * a + b * b ≤ reach * reach → a ≤ reach
@@ -28,6 +33,8 @@ covered_within_reach (Block x0 x1 y0 y1 z0 z1) x z floor (along, across, high) =
 covered_within_reach (Cylinder cx cz r y0 y1) x z floor (near, high) = disc_within_reach cx cz r x z near
 covered_within_reach (AreaBlock area x0 x1 y0 y1 z0 z1) x z floor (along, across, high) = (along, across)
 covered_within_reach (AreaCylinder area cx cz r y0 y1) x z floor (near, high) = disc_within_reach cx cz r x z near
+covered_within_reach (Prism base area y0 y1) x z floor (under, high) = under_base_in_box area (corners_of base) x z under
+covered_within_reach (Disc cx cz r area y0 y1) x z floor (under, high) = under_disc_reached area cx cz r x z under
 
 -- the columns within a distance of a centre in half cells, along one axis
 first_within : (c r x : ℕ) → (pos (div_ceil c 2) -ℤ pos (r + 1)) ≤ℤ pos x → c ≤ 2 * x + 1 + (2 * r + 1)
@@ -84,10 +91,15 @@ bounds_are_reach (Block x0 x1 y0 y1 z0 z1) x z = block_reach x0 x1 z0 z1 x z
 bounds_are_reach (Cylinder cx cz r y0 y1) x z = disc_reach cx cz r x z
 bounds_are_reach (AreaBlock area x0 x1 y0 y1 z0 z1) x z = block_reach x0 x1 z0 z1 x z
 bounds_are_reach (AreaCylinder area cx cz r y0 y1) x z = disc_reach cx cz r x z
+bounds_are_reach (Prism base area y0 y1) x z = corners_reach (corners_of base) x z
+bounds_are_reach (Disc cx cz r area y0 y1) x z = box_reach (cx -ℤ pos r) (cx +ℤ pos r) (cz -ℤ pos r) (cz +ℤ pos r) x z
 
 -- a column that a shape covers lies in its bounds
 pub covered_in_bounds : (shape : Shape) (x z floor : ℕ) → Covers shape x z floor → IsInWindow (bounds_of shape) x z
 covered_in_bounds shape x z floor covered = (bounds_are_reach shape x z).1 (covered_within_reach shape x z floor covered)
+
+is_in_tells : (low high n : ℕ) → (is_in low high n ≡ true) ↔ IsIn low high n
+is_in_tells low high n = grind (arith, nat_tests)
 
 -- the test of what a shape covers tells what it covers
 pub is_covering-Covers : (shape : Shape) (x z floor : ℕ) → (is_covering shape x z floor ≡ true) ↔ Covers shape x z floor
@@ -95,3 +107,15 @@ is_covering-Covers (Block x0 x1 y0 y1 z0 z1) x z floor = grind (arith, nat_tests
 is_covering-Covers (Cylinder cx cz r y0 y1) x z floor = grind (arith, nat_tests)
 is_covering-Covers (AreaBlock area x0 x1 y0 y1 z0 z1) x z floor = grind (arith, nat_tests)
 is_covering-Covers (AreaCylinder area cx cz r y0 y1) x z floor = grind (arith, nat_tests)
+is_covering-Covers (Prism base area y0 y1) x z floor =
+    let under = under_base_tells area (corners_of base) x z in
+    let high = is_in_tells y0 y1 floor in (
+      λ h. let parts = and_parts (is_under_base area (corners_of base) x z) _ h in (under.0 parts.0, high.0 parts.1),
+      λ h. and_from _ _ (under.1 h.0) (high.1 h.1),
+    )
+is_covering-Covers (Disc cx cz r area y0 y1) x z floor =
+    let under = under_disc_tells area cx cz r x z in
+    let high = is_in_tells y0 y1 floor in (
+      λ h. let parts = and_parts (is_under_disc area cx cz r x z) _ h in (under.0 parts.0, high.0 parts.1),
+      λ h. and_from _ _ (under.1 h.0) (high.1 h.1),
+    )

@@ -1,6 +1,6 @@
 -- Laws of touching: the test tells which tiles a shape touches, and a shape covers no cell of a tile that it does not touch.
 use Rattle.std.proofs.Common.{◌≡◌, ℕ, ℤ, pos, negsuc, ◌+◌, ◌*◌, ◌-◌, ◌/◌, ◌%◌, ◌<◌, ◌≤◌, ◌↔◌, true, inl, inr, arith}
-use Rattle.std.specs.Prelude.{◌+ℤ◌, ◌-ℤ◌, ◌≤ℤ◌, int_le, min}
+use Rattle.std.specs.Prelude.{◌+ℤ◌, ◌-ℤ◌, ◌≤ℤ◌, ◌<ℤ◌, int_le, min}
 use Rattle.std.specs.Int.{div_ceil}
 use Rattle.std.proofs.Math.Nat.{mod-lt}
 use Rattle.std.proofs.lemmas.Bool.{and_parts, and_from, cases_lt}
@@ -8,12 +8,14 @@ use Rattle.std.proofs.lemmas.Int.{ints}
 use Rattle.nav_ground.specs.declared.setting.Setting.{Setting}
 use Rattle.nav_ground.specs.declared.cell.Window.{Window}
 use Rattle.nav_ground.specs.declared.shape.Shape.{Shape}
-use Rattle.nav_ground.specs.declared.shape.Shape.TheVariants.{Block, Cylinder, AreaBlock, AreaCylinder}
+use Rattle.nav_ground.specs.declared.shape.Shape.TheVariants.{Block, Cylinder, AreaBlock, AreaCylinder, Prism, Disc}
 use Rattle.nav_ground.specs.Limits.{IsSetting, IsBox, IsRound, IsShape}
-use Rattle.nav_ground.specs.Shapes.{Covers, bounds_of}
+use Rattle.nav_ground.specs.Prisms.{corners_of, first_column, last_column}
+use Rattle.nav_ground.specs.Shapes.{Covers, bounds_of, box_window}
 use Rattle.nav_ground.specs.Tiling.{tiles_in_row, tile_rows, tile_count, corner_x, corner_z, tile_window, widened, margin_of, IsInWindow}
 use Rattle.nav_ground.specs.Touching.{Touches, are_meeting, are_overlapping, touch_window, is_touching}
 use Rattle.nav_ground.proofs.Places.{begins_inside, some_columns, row_is}
+use Rattle.nav_ground.proofs.BoxLaws.{IsNearNumber, box_near, columns_some, quotient_near, some_across, some_along}
 use Rattle.nav_ground.proofs.ShapeLaws.{covered_in_bounds}
 
 -- the order of signed numbers as a test
@@ -58,21 +60,39 @@ range_some first last h = grind (arith, ints)
 reach_some : (c r : ℕ) → (pos (div_ceil c 2) -ℤ pos (r + 1)) ≤ℤ pos (c / 2 + r)
 reach_some c r = omega (arith, ints)
 
+round_some : (c : ℤ) (r : ℕ) → 1 ≤ r → (c -ℤ pos r) <ℤ (c +ℤ pos r)
+round_some c r some = omega (arith, ints)
+
 bounds_some : (shape : Shape) → IsShape shape → IsSome (bounds_of shape)
 bounds_some (Block x0 x1 y0 y1 z0 z1) limits = record { x = range_some x0 x1 limits.x; z = range_some z0 z1 limits.z }
 bounds_some (Cylinder cx cz r y0 y1) limits = record { x = reach_some cx r; z = reach_some cz r }
 bounds_some (AreaBlock area x0 x1 y0 y1 z0 z1) (area', limits) = record { x = range_some x0 x1 limits.x; z = range_some z0 z1 limits.z }
 bounds_some (AreaCylinder area cx cz r y0 y1) limits = record { x = reach_some cx r; z = reach_some cz r }
+bounds_some (Prism base area y0 y1) limits =
+    let convex = limits.base_rules.corners.convex in
+    record { x = columns_some _ _ (some_across (corners_of base) convex); z = columns_some _ _ (some_along (corners_of base) convex) }
+bounds_some (Disc cx cz r area y0 y1) limits = record { x = columns_some _ _ (round_some cx r limits.r_least); z = columns_some _ _ (round_some cz r limits.r_least) }
 
 -- and lie in or near the largest field
 abbrev IsColumn : ℤ → Type 0
-IsColumn x = (pos 0 ≤ℤ (x +ℤ pos 1024)) × (x ≤ℤ pos 3071)
+IsColumn x = (pos 0 ≤ℤ (x +ℤ pos 4096)) × (x ≤ℤ pos 8191)
 
 pub record IsNearField (window : Window) : Type 0 where
-  pub x0 : (pos 0 ≤ℤ (window.x0 +ℤ pos 1024)) × (window.x0 ≤ℤ pos 3071)
-  pub x1 : (pos 0 ≤ℤ (window.x1 +ℤ pos 1024)) × (window.x1 ≤ℤ pos 3071)
-  pub z0 : (pos 0 ≤ℤ (window.z0 +ℤ pos 1024)) × (window.z0 ≤ℤ pos 3071)
-  pub z1 : (pos 0 ≤ℤ (window.z1 +ℤ pos 1024)) × (window.z1 ≤ℤ pos 3071)
+  pub x0 : (pos 0 ≤ℤ (window.x0 +ℤ pos 4096)) × (window.x0 ≤ℤ pos 8191)
+  pub x1 : (pos 0 ≤ℤ (window.x1 +ℤ pos 4096)) × (window.x1 ≤ℤ pos 8191)
+  pub z0 : (pos 0 ≤ℤ (window.z0 +ℤ pos 4096)) × (window.z0 ≤ℤ pos 8191)
+  pub z1 : (pos 0 ≤ℤ (window.z1 +ℤ pos 4096)) × (window.z1 ≤ℤ pos 8191)
+
+-- a number from which such a column comes
+record IsBetween (n : ℤ) : Type 0 where
+  low : negsuc 32767 ≤ℤ n
+  high : n ≤ℤ pos 98304
+
+column_from : (x : ℤ) → negsuc 2048 ≤ℤ x → pos 0 ≤ℤ (x +ℤ pos 4096)
+column_from x low = omega (arith, ints)
+
+column_to : (x : ℤ) → x ≤ℤ pos 6144 → x ≤ℤ pos 8191
+column_to x high = omega (arith, ints)
 
 number_near : (x : ℕ) → x ≤ 1023 → IsColumn (pos x)
 number_near x small = (omega (arith, ints), omega (arith, ints))
@@ -83,8 +103,8 @@ first_near c r centre small = (omega (arith, ints), omega (arith, ints))
 last_near : (c r : ℕ) → c ≤ 2048 → r ≤ 1023 → IsColumn (pos (c / 2 + r))
 last_near c r centre small = (omega (arith, ints), omega (arith, ints))
 
-box_near : (x0 x1 y0 y1 z0 z1 : ℕ) → IsBox x0 x1 y0 y1 z0 z1 → IsNearField (bounds_of (Block x0 x1 y0 y1 z0 z1))
-box_near x0 x1 y0 y1 z0 z1 limits = record {
+block_near : (x0 x1 y0 y1 z0 z1 : ℕ) → IsBox x0 x1 y0 y1 z0 z1 → IsNearField (bounds_of (Block x0 x1 y0 y1 z0 z1))
+block_near x0 x1 y0 y1 z0 z1 limits = record {
   x0 = number_near x0 (omega (arith, limits.x, limits.x_most));
   x1 = number_near x1 limits.x_most;
   z0 = number_near z0 (omega (arith, limits.z, limits.z_most));
@@ -99,11 +119,53 @@ round_near cx cz r y0 y1 limits = record {
   z1 = last_near cz r limits.cz_most limits.r_most;
 }
 
+-- a sixteenth of a number in or near the largest field
+first_near' : (low : ℤ) → negsuc 32767 ≤ℤ low → low ≤ℤ pos 98304 → IsColumn (first_column low)
+first_near' low least most =
+    let near = quotient_near low (lower low least) most in (column_from _ near.0, column_to _ near.1)
+  where
+    lower : (n : ℤ) → negsuc 32767 ≤ℤ n → negsuc 32768 ≤ℤ n
+    lower n h = omega (arith, ints)
+
+last_near' : (high : ℤ) → negsuc 32767 ≤ℤ high → high ≤ℤ pos 98304 → IsColumn (last_column high)
+last_near' high least most =
+    let near = quotient_near (high -ℤ pos 1) (omega (arith, ints)) (omega (arith, ints)) in (column_from _ near.0, column_to _ near.1)
+
+box_window_near : (x0 x1 z0 z1 : ℤ) → IsBetween x0 → IsBetween x1 → IsBetween z0 → IsBetween z1 → IsNearField (box_window x0 x1 z0 z1)
+box_window_near x0 x1 z0 z1 hx0 hx1 hz0 hz1 = record {
+  x0 = first_near' x0 hx0.low hx0.high;
+  x1 = last_near' x1 hx1.low hx1.high;
+  z0 = first_near' z0 hz0.low hz0.high;
+  z1 = last_near' z1 hz1.low hz1.high;
+}
+
+number_between : (n : ℤ) → IsNearNumber n → IsBetween n
+number_between n near = record { low = down n near.low; high = up n near.high }
+  where
+    down : (n : ℤ) → negsuc 16383 ≤ℤ n → negsuc 32767 ≤ℤ n
+    down n h = omega (arith, ints)
+
+    up : (n : ℤ) → n ≤ℤ pos 81920 → n ≤ℤ pos 98304
+    up n h = omega (arith, ints)
+
+less_between : (c : ℤ) (r : ℕ) → negsuc 16383 ≤ℤ c → c ≤ℤ pos 81920 → r ≤ 16384 → IsBetween (c -ℤ pos r)
+less_between c r low high small = record { low = omega (arith, ints); high = omega (arith, ints) }
+
+more_between : (c : ℤ) (r : ℕ) → negsuc 16383 ≤ℤ c → c ≤ℤ pos 81920 → r ≤ 16384 → IsBetween (c +ℤ pos r)
+more_between c r low high small = record { low = omega (arith, ints); high = omega (arith, ints) }
+
 pub bounds_near : (shape : Shape) → IsShape shape → IsNearField (bounds_of shape)
-bounds_near (Block x0 x1 y0 y1 z0 z1) limits = box_near x0 x1 y0 y1 z0 z1 limits
+bounds_near (Block x0 x1 y0 y1 z0 z1) limits = block_near x0 x1 y0 y1 z0 z1 limits
 bounds_near (Cylinder cx cz r y0 y1) limits = round_near cx cz r y0 y1 limits
-bounds_near (AreaBlock area x0 x1 y0 y1 z0 z1) (area', limits) = box_near x0 x1 y0 y1 z0 z1 limits
+bounds_near (AreaBlock area x0 x1 y0 y1 z0 z1) (area', limits) = block_near x0 x1 y0 y1 z0 z1 limits
 bounds_near (AreaCylinder area cx cz r y0 y1) (area', limits) = round_near cx cz r y0 y1 limits
+bounds_near (Prism base area y0 y1) limits =
+    let near = box_near (corners_of base) limits.base_rules.corners in
+    box_window_near _ _ _ _ (number_between _ near.left) (number_between _ near.right) (number_between _ near.bottom) (number_between _ near.top)
+bounds_near (Disc cx cz r area y0 y1) limits =
+    box_window_near _ _ _ _
+    (less_between cx r limits.centre.left limits.centre.right limits.r_most) (more_between cx r limits.centre.left limits.centre.right limits.r_most)
+    (less_between cz r limits.centre.bottom limits.centre.top limits.r_most) (more_between cz r limits.centre.bottom limits.centre.top limits.r_most)
 
 -- they are such with more columns on each side, too
 wide_some : (a b : ℤ) (margin : ℕ) → a ≤ℤ b → (a -ℤ pos margin) ≤ℤ (b +ℤ pos margin)

@@ -14,6 +14,9 @@ pub mod Filters
 pub mod Connection
 pub mod Clearance
 pub mod Layers
+pub mod Prisms
+pub mod CornerBoxes
+pub mod Discs
 pub mod Shapes
 pub mod Touching
 pub mod FreeCells

@@ -1,10 +1,12 @@
 -- The limits of what a ground says: agents, settings and obstacles.
-use Rattle.std.specs.Prelude.{◌≡◌, ℕ, ◌*◌, ◌<◌, ◌≤◌, Bool, true, IsTrue, nat_le, ◌&&◌, length}
+use Rattle.std.specs.Prelude.{◌≡◌, ℕ, ℤ, ◌*◌, ◌<◌, ◌≤◌, Bool, true, IsTrue, nat_le, ◌&&◌, length}
 use Rattle.std.specs.List.{list_all}
 use Rattle.nav_ground.specs.declared.setting.Agent.{Agent}
 use Rattle.nav_ground.specs.declared.setting.Setting.{Setting}
 use Rattle.nav_ground.specs.declared.shape.Shape.{Shape}
-use Rattle.nav_ground.specs.declared.shape.Shape.TheVariants.{Block, Cylinder, AreaBlock, AreaCylinder}
+use Rattle.nav_ground.specs.declared.shape.Shape.TheVariants.{Block, Cylinder, AreaBlock, AreaCylinder, Prism, Disc}
+use Rattle.nav_ground.specs.declared.prism.PrismBase.{PrismBase}
+use Rattle.nav_ground.specs.Prisms.{IsPrismBase, IsNearPoint}
 
 -- an agent stands 1 to 255 high, steps less than it stands high, and keeps 0 to 15 cells from walls
 pub record IsAgent (agent : Agent) : Type 0 where
@@ -51,6 +53,22 @@ pub record IsRound (cx cz r y0 y1 : ℕ) : Type 0 where
   pub y : y0 ≤ y1
   pub y_most : y1 ≤ 8191
 
+-- a prism's base is one, its heights do not run backwards, and its area is 0, where it stops agents, or one that can be walked on
+pub record IsPrism (base : PrismBase) (area y0 y1 : ℕ) : Type 0 where
+  pub base_rules : IsPrismBase base
+  pub area_most : area ≤ 63
+  pub y : y0 ≤ y1
+  pub y_most : y1 ≤ 8191
+
+-- a disc's centre lies where a prism's corners may, its radius is 1 to 16384 sixteenths, and the rest is as in a prism
+pub record IsDisc (cx cz : ℤ) (r area y0 y1 : ℕ) : Type 0 where
+  pub centre : IsNearPoint (record { x = cx; z = cz })
+  pub r_least : 1 ≤ r
+  pub r_most : r ≤ 16384
+  pub area_most : area ≤ 63
+  pub y : y0 ≤ y1
+  pub y_most : y1 ≤ 8191
+
 -- an area that can be walked on
 pub record IsArea (area : ℕ) : Type 0 where
   pub least : 1 ≤ area
@@ -62,3 +80,5 @@ IsShape (Block x0 x1 y0 y1 z0 z1) = IsBox x0 x1 y0 y1 z0 z1
 IsShape (Cylinder cx cz r y0 y1) = IsRound cx cz r y0 y1
 IsShape (AreaBlock area x0 x1 y0 y1 z0 z1) = IsArea area × IsBox x0 x1 y0 y1 z0 z1
 IsShape (AreaCylinder area cx cz r y0 y1) = IsArea area × IsRound cx cz r y0 y1
+IsShape (Prism base area y0 y1) = IsPrism base area y0 y1
+IsShape (Disc cx cz r area y0 y1) = IsDisc cx cz r area y0 y1

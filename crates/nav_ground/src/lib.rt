@@ -13,17 +13,21 @@
 //! columns within which an obstacle can change what is free, and `touches` says whether a tile has one of them, so that it changes nothing in
 //! another tile. All of them answer exactly as defined, take constant time and no memory.
 //!
+//! `PrismBase` is the base of a prism, at any angle; `prism_base` makes one of corners, and `shares_area` says which columns it leaves to no agent.
+//!
 //! Units: `x` and `z` count columns of the field (cells), heights count height units; a `Direction` is `Left` for x - 1, `Above` for
 //! z + 1, `Right` for x + 1 and `Below` for z - 1, numbered 0 to 3 in definitions. With x drawn to the right and z upward, tiles are squares numbered row by row from the corner (0, 0).
 #![tactic(auto)]
 
 mod cell;
 mod direction;
+mod disc;
 mod field;
 mod free_layer;
 mod history;
 mod packed;
 mod padded_cells;
+mod prism;
 mod setting;
 mod shape;
 mod touch;
@@ -35,6 +39,7 @@ pub use free_layer::PackedFreeLayer;
 pub use history::{Entry, Ground, HISTORY_LIMIT, Reply, Request};
 pub use packed::{PackedCell, PackedSpan};
 pub use padded_cells::{CellRun, PaddedCells, gathered};
+pub use prism::{PrismBase, corners, is_near, prism_base, shares_area};
 pub use setting::{AREAS, Agent, MeshKind, Setting, TileNo, tile_bounds, tiles};
 pub use shape::{Shape, bounds, covers, sets};
 pub use touch::{margin_of, touch_window, touches};

@@ -46,10 +46,10 @@ pub fn margin_of(setting: &Setting) -> u32
 
 /// A rectangle in or near the largest field, with so many more columns on each side.
 fn widened(window: Window, margin: u32) -> Window
-    requires x0 { (pos 0 ≤ℤ (window.x0 +ℤ pos 1024)) × (window.x0 ≤ℤ pos 3071) }
-    requires x1 { (pos 0 ≤ℤ (window.x1 +ℤ pos 1024)) × (window.x1 ≤ℤ pos 3071) }
-    requires z0 { (pos 0 ≤ℤ (window.z0 +ℤ pos 1024)) × (window.z0 ≤ℤ pos 3071) }
-    requires z1 { (pos 0 ≤ℤ (window.z1 +ℤ pos 1024)) × (window.z1 ≤ℤ pos 3071) }
+    requires x0 { (pos 0 ≤ℤ (window.x0 +ℤ pos 4096)) × (window.x0 ≤ℤ pos 8191) }
+    requires x1 { (pos 0 ≤ℤ (window.x1 +ℤ pos 4096)) × (window.x1 ≤ℤ pos 8191) }
+    requires z0 { (pos 0 ≤ℤ (window.z0 +ℤ pos 4096)) × (window.z0 ≤ℤ pos 8191) }
+    requires z1 { (pos 0 ≤ℤ (window.z1 +ℤ pos 4096)) × (window.z1 ≤ℤ pos 8191) }
     requires margin { margin ≤ 15 }
     ensures { result ≡ Rattle.nav_ground.specs.Tiling.widened window margin }
 {

@@ -1,4 +1,4 @@
 mod Words
 mod Crossing
-mod Laying
+pub mod Laying
 mod JumpLaws

@@ -4,7 +4,7 @@ use Rattle.nav_base.specs.declared.point.Point.{Point}
 use Rattle.nav_base.specs.Convex.{corner_at}
 use Rattle.nav_ground.specs.declared.history.Entry.{Entry}
 use Rattle.nav_ground.specs.declared.shape.Shape.{Shape}
-use Rattle.nav_ground.specs.declared.shape.Shape.TheVariants.{Block, Cylinder, AreaBlock, AreaCylinder}
+use Rattle.nav_ground.specs.declared.shape.Shape.TheVariants.{Block, Cylinder, AreaBlock, AreaCylinder, Prism, Disc}
 use Rattle.nav_ground.specs.History.{alive_after, shape_of}
 use Rattle.nav_ground.specs.Tiling.{tile_count}
 use Rattle.mesh_types.specs.declared.links.Link.{Link}
@@ -79,6 +79,16 @@ block_told number area block = record {
 abbrev pub cylinder_told : ℕ → ℕ → NavdCylinder → NavdObstacle
 cylinder_told number area round = record { number = number; area = area; kind = 1; block = no_block; cylinder = round }
 
+-- of a prism and a disc the kind and the area alone
+abbrev pub other_told : ℕ → ℕ → ℕ → NavdObstacle
+other_told number area kind = record {
+  number = number;
+  area = area;
+  kind = kind;
+  block = no_block;
+  cylinder = record { cx = 0; cz = 0; r = 0; y0 = 0; y1 = 0 };
+}
+
 -- what is told of the obstacle with a number
 abbrev pub obstacle_told : ℕ → Option Shape → NavdObstacle
 obstacle_told number (Some (Block x0 x1 y0 y1 z0 z1)) = block_told number 0 (record { x0 = x0; x1 = x1; y0 = y0; y1 = y1; z0 = z0; z1 = z1 })
@@ -86,6 +96,8 @@ obstacle_told number (Some (AreaBlock area x0 x1 y0 y1 z0 z1)) =
     block_told number area (record { x0 = x0; x1 = x1; y0 = y0; y1 = y1; z0 = z0; z1 = z1 })
 obstacle_told number (Some (Cylinder cx cz r y0 y1)) = cylinder_told number 0 (record { cx = cx; cz = cz; r = r; y0 = y0; y1 = y1 })
 obstacle_told number (Some (AreaCylinder area cx cz r y0 y1)) = cylinder_told number area (record { cx = cx; cz = cz; r = r; y0 = y0; y1 = y1 })
+obstacle_told number (Some (Prism base area y0 y1)) = other_told number area 2
+obstacle_told number (Some (Disc cx cz r area y0 y1)) = other_told number area 3
 obstacle_told number None = block_told number 0 no_block
 
 abbrev pub obstacle_of : List Entry → ℕ → NavdObstacle

@@ -76,3 +76,11 @@ busy = 17
 -- the triangles give more spans than a field can have
 abbrev pub too_many_spans : ℕ
 too_many_spans = 18
+
+-- the search came to its limit
+abbrev pub limit : ℕ
+limit = 20
+
+-- the kept path leads on in part
+abbrev pub cut : ℕ
+cut = 21

@@ -69,20 +69,20 @@ pub(crate) fn end_floors(
 }
 
 /// Whether both parts of a point are coordinates.
-pub(crate) fn has_coordinates(p: NavdPoint) -> bool
+pub fn has_coordinates(p: NavdPoint) -> bool
     ensures { IsTrue result ↔ HasCoordinates (point_of p) }
 {
     -65536 <= p.x && p.x <= 65536 && -65536 <= p.z && p.z <= 65536
 }
 
 /// Whether a way leads from a point with coordinates to another.
-pub(crate) fn is_way(way: &NavdWay) -> bool
+pub fn is_way(way: &NavdWay) -> bool
     ensures { IsTrue result ↔ (HasCoordinates (point_of way.now.from) × HasCoordinates (point_of way.now.to)) }
 {
     has_coordinates(way.from) && has_coordinates(way.to)
 }
 
-pub(crate) fn point_of(p: NavdPoint) -> Point
+pub fn point_of(p: NavdPoint) -> Point
     ensures { result ≡ Rattle.nav_handle.specs.Wire.point_of p }
 {
     Point { x: p.x, z: p.z }
@@ -109,13 +109,13 @@ pub(crate) fn ray_question(way: &NavdWay) -> Question
     }
 }
 
-pub(crate) fn point_told(p: Point) -> NavdPoint
+pub fn point_told(p: Point) -> NavdPoint
     ensures { result ≡ Rattle.nav_handle.specs.Wire.point_told p }
 {
     NavdPoint { x: p.x, z: p.z }
 }
 
-pub(crate) fn polygon_told(at: PolyRef) -> NavdPolygon
+pub fn polygon_told(at: PolyRef) -> NavdPolygon
     ensures { result ≡ Rattle.nav_handle.specs.Wire.polygon_told at }
 {
     NavdPolygon {
@@ -165,7 +165,7 @@ fn floor_told(floor: FloorAt) -> NavdFloor
 }
 
 /// Lays links into a room.
-pub(crate) fn lay_links(links: &[Link], room: &mut [NavdLink])
+pub fn lay_links(links: &[Link], room: &mut [NavdLink])
     ensures { room.new ≡ laid (map Rattle.nav_handle.specs.Wire.link_told links.now) room.old }
 {
     let count = links.len().min(room.len());
@@ -175,7 +175,7 @@ pub(crate) fn lay_links(links: &[Link], room: &mut [NavdLink])
 }
 
 /// Lays turns into a room.
-pub(crate) fn lay_turns(turns: &[Corner], room: &mut [NavdTurn])
+pub fn lay_turns(turns: &[Corner], room: &mut [NavdTurn])
     ensures { room.new ≡ laid (map Rattle.nav_handle.specs.Wire.turn_told turns.now) room.old }
 {
     let count = turns.len().min(room.len());

@@ -36,7 +36,8 @@ pub struct NavdFace {
     pub high: u32,
 }
 
-/// An obstacle: its number, the area that it sets or 0, and what it is: a block (0) or a cylinder (1). The numbers of the other one are 0.
+/// An obstacle: its number, the area that it sets or 0, and what it is: a block (0), a cylinder (1), a prism (2) or a disc (3). The numbers of what
+/// it is not are 0.
 #[repr(C)]
 #[derive(Clone, Copy)]
 pub struct NavdObstacle {
@@ -140,6 +141,24 @@ fn cylinder_told(number: u32, area: u32, cylinder: NavdCylinder) -> NavdObstacle
     }
 }
 
+fn other_told(number: u32, area: u32, kind: u32) -> NavdObstacle
+    ensures { result ≡ Rattle.nav_handle.specs.Looking.other_told number area kind }
+{
+    NavdObstacle {
+        number,
+        area,
+        kind,
+        block: no_block(),
+        cylinder: NavdCylinder {
+            cx: 0,
+            cz: 0,
+            r: 0,
+            y0: 0,
+            y1: 0,
+        },
+    }
+}
+
 fn no_block() -> NavdBlock
     ensures { result ≡ Rattle.nav_handle.specs.Looking.no_block }
 {
@@ -218,6 +237,8 @@ fn obstacle_told(number: u32, shape: Option<Shape>) -> NavdObstacle
                 y1,
             },
         ) => { cylinder_told(number, area, NavdCylinder { cx, cz, r, y0, y1 }) }
+        Some(Shape::Prism { area, .. }) => other_told(number, area, 2),
+        Some(Shape::Disc { area, .. }) => other_told(number, area, 3),
         None => block_told(number, 0, no_block()),
     }
 }

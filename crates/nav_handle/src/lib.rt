@@ -20,7 +20,10 @@ mod wire;
 mod work;
 
 pub use asking::{HasMesh, cast_ray, find_floors, find_path};
-pub use ends::{block_shape, cylinder_shape, lay_numbers};
+pub use ends::{
+    block_shape, cylinder_shape, has_coordinates, is_way, lay_links, lay_numbers, lay_turns,
+    point_of, point_told, polygon_told,
+};
 pub use faces::{
     NavdCorner, NavdFace, NavdObstacle, lay_obstacles, tell_border_links, tell_faces,
     tell_inner_links,
@@ -30,9 +33,9 @@ pub use hops::{NavdHop, NavdJump, NavdStep, find_hop};
 pub use view::{MeshView, table_of};
 pub use walkers::{NavdWalker, march, send};
 pub use wire::{
-    BUSY, DEAD, EMPTY, FAULTY, FOREIGN, HISTORY_FULL, NO_GOAL, NO_MEMORY, NO_PATH, NO_ROOM,
-    NO_START, NOT_YET, NavdBlock, NavdCounts, NavdCylinder, NavdFault, NavdFloor, NavdLink,
-    NavdPath, NavdPoint, NavdPolygon, NavdRay, NavdShown, NavdTurn, NavdWay, OK, OUT_OF_RANGE,
-    SAME, STALE, TOO_MANY, TOO_MANY_SPANS, WALL,
+    BUSY, CUT, DEAD, EMPTY, FAULTY, FOREIGN, HISTORY_FULL, LIMIT, NO_GOAL, NO_MEMORY, NO_PATH,
+    NO_ROOM, NO_START, NOT_YET, NavdBlock, NavdCounts, NavdCylinder, NavdFault, NavdFloor,
+    NavdLink, NavdPath, NavdPoint, NavdPolygon, NavdRay, NavdShown, NavdTurn, NavdWay, OK,
+    OUT_OF_RANGE, SAME, STALE, TOO_MANY, TOO_MANY_SPANS, WALL,
 };
 pub use work::BuildJob;

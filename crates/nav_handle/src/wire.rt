@@ -166,3 +166,7 @@ pub const FOREIGN: u32 = 16;
 pub const BUSY: u32 = 17;
 /// The triangles give more spans than a field can have.
 pub const TOO_MANY_SPANS: u32 = 18;
+/// The search came to its limit.
+pub const LIMIT: u32 = 20;
+/// The kept path leads on in part.
+pub const CUT: u32 = 21;

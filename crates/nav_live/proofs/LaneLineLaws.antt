@@ -20,6 +20,7 @@ use Rattle.nav_script.specs.declared.script.Script.{Script}
 use Rattle.nav_script.specs.declared.script.Way.TheVariants.{Live}
 use Rattle.nav_script.specs.Lanes.{adds_before, next_lane, lines_from, lines_of, names_lane}
 use Rattle.nav_script.specs.Limits.{IsLine, IsPlace, IsQuestion, IsScript}
+use Rattle.nav_script.proofs.SpellingLaws.{script_shape}
 use Rattle.nav_live.specs.LaneSteps.{IsRunnable}
 use Rattle.nav_live.specs.LaneLines.{lines_by_lane, given}
 
@@ -136,7 +137,7 @@ can_be_answered (Ray from from_y to) fits = (has_coordinates from fits.0, has_co
 can_run : (lanes workers adds : ℕ) (line : Line) → IsLine Live lanes workers adds line → names_lane line ≡ false → IsRunnable line
 can_run lanes workers adds (Lane lane) fits other = absurd (cc other)
 can_run lanes workers adds (Ask question) fits other = can_be_answered question fits
-can_run lanes workers adds (Add shape) fits other = fits
+can_run lanes workers adds (Add shape) fits other = script_shape shape fits
 can_run lanes workers adds (Remove number) fits other = tt
 can_run lanes workers adds (Undo back) fits other = tt
 can_run lanes workers adds Settle fits other = tt

@@ -14,6 +14,7 @@ use Rattle.nav_script.specs.declared.script.Line.TheVariants.{Lane, Ask, Add, Cl
 use Rattle.nav_script.specs.declared.script.Script.{Script}
 use Rattle.nav_script.specs.declared.script.Way.TheVariants.{Play, Live}
 use Rattle.nav_script.specs.Limits.{IsScript, IsLine, IsPlace, IsQuestion}
+use Rattle.nav_script.proofs.SpellingLaws.{script_shape}
 use Rattle.nav_script.specs.Lanes.{adds_before, is_jump}
 use Rattle.nav_play.specs.Players.{IsPlayable}
 
@@ -34,7 +35,7 @@ playable : (lanes workers jumps before : ℕ) (line : Line) → IsLine Play lane
     → IsPlayable lanes workers jumps line
 playable lanes workers jumps before (Lane lane) fits room = fits
 playable lanes workers jumps before (Ask question) fits room = answerable question fits
-playable lanes workers jumps before (Add shape) fits room = fits
+playable lanes workers jumps before (Add shape) fits room = script_shape shape fits
 playable lanes workers jumps before (Claim worker) fits room = fits.1
 playable lanes workers jumps before (Back worker) fits room = fits.1
 playable lanes workers jumps before (Submit worker) fits room = fits.1

@@ -11,7 +11,7 @@ use Rattle.nav_ground.specs.declared.history.Reply.TheVariants.{Added, Removed, 
 use Rattle.nav_ground.specs.declared.history.Request.{Request}
 use Rattle.nav_ground.specs.declared.history.Request.TheVariants.{Add, Remove}
 use Rattle.nav_ground.specs.declared.shape.Shape.{Shape}
-use Rattle.nav_ground.specs.declared.shape.Shape.TheVariants.{Block, Cylinder, AreaBlock, AreaCylinder}
+use Rattle.nav_ground.specs.declared.shape.Shape.TheVariants.{Block, Cylinder, AreaBlock, AreaCylinder, Prism, Disc}
 use Rattle.nav_text.specs.declared.fault.TextFault.{TextFault}
 use Rattle.nav_text.specs.Forms.{line_text}
 use Rattle.nav_text.specs.Lines.{ended, is_line}
@@ -102,6 +102,8 @@ shape_plain (AreaBlock area x0 x1 y0 y1 z0 z1) =
 shape_plain (AreaCylinder area cx cz r y0 y1) =
     is_line-append (line_text (codes "add area") (area ∷ [])) (line_text (codes " cylinder") (cx ∷ cz ∷ r ∷ y0 ∷ y1 ∷ []))
     (worded (codes "add area") (area ∷ []) refl) (worded (codes " cylinder") (cx ∷ cz ∷ r ∷ y0 ∷ y1 ∷ []) refl)
+shape_plain (Prism base area y0 y1) = refl
+shape_plain (Disc cx cz r area y0 y1) = refl
 
 request_plain : (request : Request) → is_line (request_spelling request) ≡ true
 request_plain (Add shape) = shape_plain shape

@@ -88,6 +88,8 @@ fn append_shape(out: &mut Vec<u8>, shape: &Shape) -> Result<(), AllocError>
             y0,
             y1,
         } => append_area(out, area, b" cylinder", &[cx, cz, r, y0, y1]),
+        Shape::Prism { .. } => out.extend_from_slice(b"add prism"),
+        Shape::Disc { .. } => out.extend_from_slice(b"add disc"),
     }
 }
 

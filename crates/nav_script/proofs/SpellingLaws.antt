@@ -8,7 +8,7 @@ use Rattle.nav_base.specs.declared.point.Point.{Point}
 use Rattle.nav_base.specs.declared.point.Question.{Question}
 use Rattle.nav_base.specs.declared.point.Question.TheVariants.{Floor, Path, Ray}
 use Rattle.nav_ground.specs.declared.shape.Shape.{Shape}
-use Rattle.nav_ground.specs.declared.shape.Shape.TheVariants.{Block, Cylinder, AreaBlock, AreaCylinder}
+use Rattle.nav_ground.specs.declared.shape.Shape.TheVariants.{Block, Cylinder, AreaBlock, AreaCylinder, Prism, Disc}
 use Rattle.nav_ground.specs.Limits.{IsArea, IsBox, IsRound, IsShape}
 use Rattle.nav_text.specs.declared.fault.FaultKind.TheVariants as kinds
 use Rattle.nav_text.specs.Lines.{is_line}
@@ -21,7 +21,7 @@ use Rattle.nav_script.specs.declared.script.Way.{Way}
 use Rattle.nav_script.specs.declared.script.Way.TheVariants.{Play, Live}
 use Rattle.nav_script.specs.Spelling.{ends_of, question_spelling, shape_spelling, line_of}
 use Rattle.nav_script.specs.Lanes.{is_jump, is_request}
-use Rattle.nav_script.specs.Limits.{AreEnds, IsJump, IsPlace, IsLine, IsQuestion}
+use Rattle.nav_script.specs.Limits.{AreEnds, IsJump, IsPlace, IsLine, IsQuestion, IsScriptShape}
 use Rattle.nav_script.specs.Forms.{LineRead, is_range, lane_line}
 use Rattle.nav_script.specs.QuestionForms.{is_place, is_standing, point_at, question_line}
 use Rattle.nav_script.specs.RequestForms.{drop_line, request_line, area_line}
@@ -39,6 +39,8 @@ begins_spelled (Add (Block x0 x1 y0 y1 z0 z1)) = refl
 begins_spelled (Add (Cylinder cx cz r y0 y1)) = refl
 begins_spelled (Add (AreaBlock area x0 x1 y0 y1 z0 z1)) = refl
 begins_spelled (Add (AreaCylinder area cx cz r y0 y1)) = refl
+begins_spelled (Add (Prism base area y0 y1)) = refl
+begins_spelled (Add (Disc cx cz r area y0 y1)) = refl
 begins_spelled (Remove number) = refl
 begins_spelled (Undo back) = refl
 begins_spelled Settle = refl
@@ -62,6 +64,8 @@ jump_spelled (Add (Block x0 x1 y0 y1 z0 z1)) = refl
 jump_spelled (Add (Cylinder cx cz r y0 y1)) = refl
 jump_spelled (Add (AreaBlock area x0 x1 y0 y1 z0 z1)) = refl
 jump_spelled (Add (AreaCylinder area cx cz r y0 y1)) = refl
+jump_spelled (Add (Prism base area y0 y1)) = refl
+jump_spelled (Add (Disc cx cz r area y0 y1)) = refl
 jump_spelled (Remove number) = refl
 jump_spelled (Undo back) = refl
 jump_spelled Settle = refl
@@ -327,6 +331,8 @@ again_in_groups way lanes workers adds (Add (Block x0 x1 y0 y1 z0 z1)) few crew 
 again_in_groups way lanes workers adds (Add (Cylinder cx cz r y0 y1)) few crew counted is = cylinder_again way lanes workers adds cx cz r y0 y1 is
 again_in_groups way lanes workers adds (Add (AreaBlock area x0 x1 y0 y1 z0 z1)) few crew counted is = area_block_again way lanes workers adds area x0 x1 y0 y1 z0 z1 is.0 is.1
 again_in_groups way lanes workers adds (Add (AreaCylinder area cx cz r y0 y1)) few crew counted is = area_cylinder_again way lanes workers adds area cx cz r y0 y1 is.0 is.1
+again_in_groups way lanes workers adds (Add (Prism base area y0 y1)) few crew counted is = absurd is
+again_in_groups way lanes workers adds (Add (Disc cx cz r area y0 y1)) few crew counted is = absurd is
 again_in_groups way lanes workers adds (Remove number) few crew counted is = remove_again way lanes workers adds number is
 again_in_groups way lanes workers adds (Undo back) few crew counted is = undo_again way lanes workers adds back is.0 is.1 counted
 again_in_groups way lanes workers adds Settle few crew counted is = settle_again way lanes workers adds
@@ -395,7 +401,7 @@ plain_area area word numbers rules plain fit =
     list_all-append (λ c. not (eqb c 10)) (line_text (codes "add area") (area ∷ [])) (line_text word numbers)
     ∙ and_from _ _ (is_line-line_text (codes "add area") (area ∷ []) refl (omega arith, tt)) (is_line-line_text word numbers plain fit)
 
-plain_shape : (shape : Shape) → IsShape shape → is_line (shape_spelling shape) ≡ true
+plain_shape : (shape : Shape) → IsScriptShape shape → is_line (shape_spelling shape) ≡ true
 plain_shape (Block x0 x1 y0 y1 z0 z1) box =
     is_line-line_text (codes "add block") (x0 ∷ x1 ∷ y0 ∷ y1 ∷ z0 ∷ z1 ∷ []) refl
     (omega arith, (omega arith, (omega arith, (omega arith, (omega arith, (omega arith, tt))))))
@@ -408,6 +414,17 @@ plain_shape (AreaBlock area x0 x1 y0 y1 z0 z1) (rules, box) =
 plain_shape (AreaCylinder area cx cz r y0 y1) (rules, round) =
     plain_area area (codes " cylinder") (cx ∷ cz ∷ r ∷ y0 ∷ y1 ∷ []) rules refl
     (omega arith, (omega arith, (omega arith, (omega arith, (omega arith, tt)))))
+plain_shape (Prism base area y0 y1) is = absurd is
+plain_shape (Disc cx cz r area y0 y1) is = absurd is
+
+-- what a script may add is an obstacle within its limits
+pub script_shape : (shape : Shape) → IsScriptShape shape → IsShape shape
+script_shape (Block x0 x1 y0 y1 z0 z1) is = is
+script_shape (Cylinder cx cz r y0 y1) is = is
+script_shape (AreaBlock area x0 x1 y0 y1 z0 z1) is = is
+script_shape (AreaCylinder area cx cz r y0 y1) is = is
+script_shape (Prism base area y0 y1) is = absurd is
+script_shape (Disc cx cz r area y0 y1) is = absurd is
 
 -- a line that may stand there, spelled, has no line feed in it
 pub line_plain : (way : Way) (lanes workers adds : ℕ) (line : Line) → lanes ≤ 16 → workers ≤ 8 → adds < 2 ^ 32 → IsLine way lanes workers adds line

@@ -4,7 +4,9 @@ use Rattle.nav_base.specs.declared.point.Point.{Point}
 use Rattle.nav_base.specs.declared.point.Question.{Question}
 use Rattle.nav_base.specs.declared.point.Question.TheVariants.{Floor, Path, Ray}
 use Rattle.nav_ground.specs.History.{history_limit}
-use Rattle.nav_ground.specs.Limits.{IsShape}
+use Rattle.nav_ground.specs.declared.shape.Shape.{Shape}
+use Rattle.nav_ground.specs.declared.shape.Shape.TheVariants.{Block, Cylinder, AreaBlock, AreaCylinder, Prism, Disc}
+use Rattle.nav_ground.specs.Limits.{IsArea, IsBox, IsRound}
 use Rattle.mesh_types.specs.declared.answers.Jump as jumps
 use Rattle.nav_script.specs.declared.script.Line.{Line}
 use Rattle.nav_script.specs.declared.script.Line.TheVariants.{Lane, Ask, Add, Remove, Undo, Settle, Aim, Claim, Back, Submit, Publish, Jump, Hop, Send, March}
@@ -35,13 +37,23 @@ IsQuestion (Floor x z) = (x ≤ 1023) × (z ≤ 1023)
 IsQuestion (Path from from_y to to_y) = AreEnds from from_y to to_y
 IsQuestion (Ray from from_y to) = IsPlace from × (from_y ≤ 8191) × IsPlace to
 
+-- an obstacle that a script may add: a block or a cylinder within its limits, which stops agents or sets an area; a script has no line for
+-- a prism or a disc
+abbrev pub IsScriptShape : Shape → Type 0
+IsScriptShape (Block x0 x1 y0 y1 z0 z1) = IsBox x0 x1 y0 y1 z0 z1
+IsScriptShape (Cylinder cx cz r y0 y1) = IsRound cx cz r y0 y1
+IsScriptShape (AreaBlock area x0 x1 y0 y1 z0 z1) = IsArea area × IsBox x0 x1 y0 y1 z0 z1
+IsScriptShape (AreaCylinder area cx cz r y0 y1) = IsArea area × IsRound cx cz r y0 y1
+IsScriptShape (Prism base area y0 y1) = ⊥
+IsScriptShape (Disc cx cz r area y0 y1) = ⊥
+
 -- a line may stand where so many adds of its lane stand before it: its numbers are in their limits, lanes and workers are below
 -- their counts, a `drop` names one of those adds, counted from 1, and the lines that lead workers, declare jumps or ask for hop walks are
 -- played only, and those of walkers run live only
 abbrev pub IsLine : Way → (lanes workers adds : ℕ) → Line → Type 0
 IsLine way lanes workers adds (Lane lane) = lane < lanes
 IsLine way lanes workers adds (Ask question) = IsQuestion question
-IsLine way lanes workers adds (Add shape) = IsShape shape
+IsLine way lanes workers adds (Add shape) = IsScriptShape shape
 IsLine way lanes workers adds (Remove number) = number < 2 ^ 32
 IsLine way lanes workers adds (Undo back) = (1 ≤ back) × (back ≤ adds)
 IsLine way lanes workers adds Settle = ⊤

@@ -4,7 +4,7 @@ use Rattle.nav_base.specs.declared.point.Point.{Point}
 use Rattle.nav_base.specs.declared.point.Question.{Question}
 use Rattle.nav_base.specs.declared.point.Question.TheVariants.{Floor, Path, Ray}
 use Rattle.nav_ground.specs.declared.shape.Shape.{Shape}
-use Rattle.nav_ground.specs.declared.shape.Shape.TheVariants.{Block, Cylinder, AreaBlock, AreaCylinder}
+use Rattle.nav_ground.specs.declared.shape.Shape.TheVariants.{Block, Cylinder, AreaBlock, AreaCylinder, Prism, Disc}
 use Rattle.nav_text.specs.Lines.{text_of}
 use Rattle.nav_text.specs.Forms.{line_text}
 use Rattle.nav_script.specs.declared.script.Line.{Line}
@@ -22,7 +22,7 @@ question_spelling (Path from from_y to to_y) = line_text (codes "path") (ends_of
 question_spelling (Ray from from_y to) =
     line_text (codes "ray") (nat_abs from.x ∷ nat_abs from.z ∷ from_y ∷ nat_abs to.x ∷ nat_abs to.z ∷ [])
 
--- an obstacle: its kind and its numbers, and before them the area where it sets one
+-- an obstacle: its kind and its numbers, and before them the area where it sets one; of a prism and a disc, which no script adds, the kind
 abbrev pub shape_spelling : Shape → List ℕ
 shape_spelling (Block x0 x1 y0 y1 z0 z1) = line_text (codes "add block") (x0 ∷ x1 ∷ y0 ∷ y1 ∷ z0 ∷ z1 ∷ [])
 shape_spelling (Cylinder cx cz r y0 y1) = line_text (codes "add cylinder") (cx ∷ cz ∷ r ∷ y0 ∷ y1 ∷ [])
@@ -30,6 +30,8 @@ shape_spelling (AreaBlock area x0 x1 y0 y1 z0 z1) =
     line_text (codes "add area") (area ∷ []) ++ line_text (codes " block") (x0 ∷ x1 ∷ y0 ∷ y1 ∷ z0 ∷ z1 ∷ [])
 shape_spelling (AreaCylinder area cx cz r y0 y1) =
     line_text (codes "add area") (area ∷ []) ++ line_text (codes " cylinder") (cx ∷ cz ∷ r ∷ y0 ∷ y1 ∷ [])
+shape_spelling (Prism base area y0 y1) = codes "add prism"
+shape_spelling (Disc cx cz r area y0 y1) = codes "add disc"
 
 -- the spelling of a line
 abbrev pub line_of : Line → List ℕ

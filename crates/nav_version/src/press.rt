@@ -11,7 +11,7 @@ use crate::eye::Eye;
 use crate::rule::Told;
 use crate::version::{HeldVersion, PublishedVersion, Version};
 use mesh_types::{Mesh, TileMesh};
-use nav_ground::{Entry, Reply, Request, TileNo};
+use nav_ground::{Entry, Reply, Request, Shape, TileNo};
 use nav_lists::{Items, Shared};
 use std::alloc::{AllocError, Global};
 use std::marker::Model;
@@ -121,10 +121,16 @@ fn is_same_request(a: &Request, b: &Request) -> bool
     ensures { IsTrue result ↔ (a.now ≡ b.now) }
 {
     match (a, b) {
-        (Request::Add(a), Request::Add(b)) => a == b,
+        (Request::Add(a), Request::Add(b)) => is_same_shape(a, b),
         (Request::Remove(a), Request::Remove(b)) => a == b,
         _ => false,
     }
+}
+
+fn is_same_shape(a: &Shape, b: &Shape) -> bool
+    ensures { IsTrue result ↔ (a.now ≡ b.now) }
+{
+    a == b
 }
 
 fn is_same_reply(a: &Reply, b: &Reply) -> bool

@@ -46,7 +46,7 @@ module _ (mesh : Mesh) (areas : ℕ) (costs : List ℕ) (start : PolyRef) (sound
   abbrev weigh : List Link → ℕ
   weigh links = weight_by (arc_over (with_costs costs mesh)) links
 
-  moves-walk : (links : List Link) (from to : PolyRef) → Moves from links to → WalksTo mesh from links to
+  pub moves-walk : (links : List Link) (from to : PolyRef) → Moves from links to → WalksTo mesh from links to
   moves-walk [] from to walk = λ i. polygon_of (walk i)
   moves-walk (link ∷ links) from to walk =
       let leading = leads mesh from link sound (held-link mesh areas start (vertex_of from) link walk.0) in
@@ -84,14 +84,14 @@ module _ (mesh : Mesh) (areas : ℕ) (costs : List ℕ) (start : PolyRef) (sound
       omega (arith, whole, same)
 
   -- a walk from the start that weighs less
-  record IsLighter (links : List Link) (to : PolyRef) : Type 0 where
-    other : List Link
-    moves : Moves start other to
-    less : weigh other < weigh links
+  pub record IsLighter (links : List Link) (to : PolyRef) : Type 0 where
+    pub other : List Link
+    pub moves : Moves start other to
+    pub less : weigh other < weigh links
 
   -- a walk to a polygon that leads on enters polygons of open areas alone, or comes by the start, and what is left of it from there
   -- weighs less
-  open-or-lighter : (links : List Link) (from to : PolyRef) → IsSetting (with_costs costs mesh).setting → Moves from links to
+  pub open-or-lighter : (links : List Link) (from to : PolyRef) → IsSetting (with_costs costs mesh).setting → Moves from links to
       → leads_on mesh areas start to ≡ true
       → All (Enters mesh areas) links ⊎ IsLighter links to
   open-or-lighter [] from to setting walk on = inl (All-nil (Enters mesh areas))
@@ -139,7 +139,7 @@ module _ (mesh : Mesh) (areas : ℕ) (costs : List ℕ) (start : PolyRef) (sound
       record { there = omega (arith, below, same) }
 
 -- what an allowed walk costs does not depend on what closed areas cost
-weight-same : (mesh : Mesh) (areas : ℕ) (costs search : List ℕ) (link : Link) → IsSound mesh → AreSearchCosts areas costs search
+pub weight-same : (mesh : Mesh) (areas : ℕ) (costs search : List ℕ) (link : Link) → IsSound mesh → AreSearchCosts areas costs search
     → IsLinkOf mesh link → Enters mesh areas link
     → weight_of (with_costs search mesh) link ≡ weight_of (with_costs costs mesh) link
 weight-same mesh areas costs search link sound are listed enters =

@@ -1,7 +1,7 @@
 -- What is right for the question for a way is determined: its kind, its first polygon and its cost. With all areas open and no costs of
 -- its own
 -- these are those of a path.
-use Rattle.std.proofs.Common.{◌≡◌, ℕ, List, [], ◌∷◌, sym, subst, arith}
+use Rattle.std.proofs.Common.{◌≡◌, ℕ, List, [], ◌∷◌, sym, subst, inl, inr, arith}
 use Rattle.std.specs.Prelude.{All, None}
 use Rattle.std.specs.Option.{unwrap_or}
 use Rattle.std.proofs.lemmas.List.Elements.{All-cons, All-nil}
@@ -19,9 +19,10 @@ use Rattle.mesh_types.proofs.MeshPolygons.{placed}
 use Rattle.mesh_types.proofs.RightLaws.{one_located}
 use Rattle.path_queries.specs.declared.plans.PathQuery.{PathQuery}
 use Rattle.path_queries.specs.declared.plans.PlanAnswer.{PlanAnswer}
-use Rattle.path_queries.specs.declared.plans.PlanAnswer.TheVariants.{Whole, NoStart, NoGoal, NoPath}
+use Rattle.path_queries.specs.declared.plans.PlanAnswer.TheVariants.{Whole, Limit, NoStart, NoGoal, NoPath}
 use Rattle.path_queries.specs.Filters.{AllowedTo, AreAllOpen, Enters, priced, with_costs}
-use Rattle.path_queries.specs.Plans.{AreAlikePlans, HasNoWay, IsPlan, IsPlanAsPath, IsWay}
+use Rattle.path_queries.specs.Plans.{AreAlikePlans, HasNoLimits, HasNoWay, IsLimited, IsPlan, IsPlanAsPath, IsWay}
+use Rattle.path_queries.specs.Reaches.{ArePlanLimits}
 
 module _ (mesh : Mesh) (query : PathQuery) where
   -- two ways
@@ -43,24 +44,37 @@ module _ (mesh : Mesh) (query : PathQuery) where
       none.no_walk found.links (subst (λ (at : PolyRef). AllowedTo mesh query.filter.areas at found.links none.last) first
       (subst (AllowedTo mesh query.filter.areas found.first found.links) last is.cheapest.allowed))
 
+  -- without limits none ends a search
+  not_limited : (seen : ℕ) → HasNoLimits query → IsLimited mesh query seen → ⊥
+  not_limited seen none is = by_limit is.limited
+    where
+      by_limit : ArePlanLimits query.most_cost query.most_polygons → ⊥
+      by_limit (inl cost) = omega (arith, cost, none.cost)
+      by_limit (inr polygons) = omega (arith, polygons, none.polygons)
+
   -- right answers to one question are alike
-  pub alike_plans : (a b : PlanAnswer) → IsPlan query mesh a → IsPlan query mesh b → AreAlikePlans a b
-  alike_plans NoStart NoStart r s = tt
-  alike_plans NoStart NoGoal r s = absurd (r s.first s.start.holding)
-  alike_plans NoStart NoPath r s = absurd (r s.first s.start.holding)
-  alike_plans NoStart (Whole g) r s = absurd (r g.first s.start.holding)
-  alike_plans NoGoal NoStart r s = absurd (s r.first r.start.holding)
-  alike_plans NoGoal NoGoal r s = tt
-  alike_plans NoGoal NoPath r s = absurd (r.no_goal s.last s.goal.holding)
-  alike_plans NoGoal (Whole g) r s = absurd (r.no_goal s.last s.goal.holding)
-  alike_plans NoPath NoStart r s = absurd (s r.first r.start.holding)
-  alike_plans NoPath NoGoal r s = absurd (s.no_goal r.last r.goal.holding)
-  alike_plans NoPath NoPath r s = tt
-  alike_plans NoPath (Whole g) r s = absurd (no_way_there g r s)
-  alike_plans (Whole f) NoStart r s = absurd (s f.first r.start.holding)
-  alike_plans (Whole f) NoGoal r s = absurd (s.no_goal r.last r.goal.holding)
-  alike_plans (Whole f) NoPath r s = absurd (no_way_there f s r)
-  alike_plans (Whole f) (Whole g) r s = both_ways f g r s
+  pub alike_plans : HasNoLimits query → (a b : PlanAnswer) → IsPlan query mesh a → IsPlan query mesh b → AreAlikePlans a b
+  alike_plans free NoStart NoStart r s = tt
+  alike_plans free NoStart NoGoal r s = absurd (r s.first s.start.holding)
+  alike_plans free NoStart NoPath r s = absurd (r s.first s.start.holding)
+  alike_plans free NoStart (Whole g) r s = absurd (r g.first s.start.holding)
+  alike_plans free NoGoal NoStart r s = absurd (s r.first r.start.holding)
+  alike_plans free NoGoal NoGoal r s = tt
+  alike_plans free NoGoal NoPath r s = absurd (r.no_goal s.last s.goal.holding)
+  alike_plans free NoGoal (Whole g) r s = absurd (r.no_goal s.last s.goal.holding)
+  alike_plans free NoPath NoStart r s = absurd (s r.first r.start.holding)
+  alike_plans free NoPath NoGoal r s = absurd (s.no_goal r.last r.goal.holding)
+  alike_plans free NoPath NoPath r s = tt
+  alike_plans free NoPath (Whole g) r s = absurd (no_way_there g r s)
+  alike_plans free (Whole f) NoStart r s = absurd (s f.first r.start.holding)
+  alike_plans free (Whole f) NoGoal r s = absurd (s.no_goal r.last r.goal.holding)
+  alike_plans free (Whole f) NoPath r s = absurd (no_way_there f s r)
+  alike_plans free (Whole f) (Whole g) r s = both_ways f g r s
+  alike_plans free (Limit n) b r s = absurd (not_limited n free r)
+  alike_plans free NoStart (Limit n) r s = absurd (not_limited n free s)
+  alike_plans free NoGoal (Limit n) r s = absurd (not_limited n free s)
+  alike_plans free NoPath (Limit n) r s = absurd (not_limited n free s)
+  alike_plans free (Whole f) (Limit n) r s = absurd (not_limited n free s)
 
 -- ---- with all areas open
 
@@ -115,34 +129,35 @@ module _ (mesh : Mesh) (query : PathQuery) (sound : IsSound mesh) (all : AreAllO
       (subst (WalksTo mesh f.first f.links) last is.cheapest.allowed.walks))
 
   -- a right answer is like the right answers to the question for a path
-  pub plan_as_path : (a : PlanAnswer) (b : Answer) → query.filter.costs ≡ None → IsPlan query mesh a
+  pub plan_as_path : HasNoLimits query → (a : PlanAnswer) (b : Answer) → query.filter.costs ≡ None → IsPlan query mesh a
       → IsRightPath mesh query.from query.from_y query.goal query.goal_y b
       → IsPlanAsPath a b
-  plan_as_path NoStart paths.NoStart none r s = tt
-  plan_as_path NoStart paths.NoGoal none r s = absurd (r s.first s.start.holding)
-  plan_as_path NoStart paths.NoPath none r s = absurd (r s.first s.start.holding)
-  plan_as_path NoStart (paths.Path g) none r s = absurd (r g.first s.start.holding)
-  plan_as_path NoStart (paths.Floors floors) none r s = absurd s
-  plan_as_path NoStart (paths.Reached at) none r s = absurd s
-  plan_as_path NoStart (paths.Wall u v m n) none r s = absurd s
-  plan_as_path NoGoal paths.NoStart none r s = absurd (s r.first r.start.holding)
-  plan_as_path NoGoal paths.NoGoal none r s = tt
-  plan_as_path NoGoal paths.NoPath none r s = absurd (r.no_goal s.last s.goal.holding)
-  plan_as_path NoGoal (paths.Path g) none r s = absurd (r.no_goal s.last s.goal.holding)
-  plan_as_path NoGoal (paths.Floors floors) none r s = absurd s
-  plan_as_path NoGoal (paths.Reached at) none r s = absurd s
-  plan_as_path NoGoal (paths.Wall u v m n) none r s = absurd s
-  plan_as_path NoPath paths.NoStart none r s = absurd (s r.first r.start.holding)
-  plan_as_path NoPath paths.NoGoal none r s = absurd (s.no_goal r.last r.goal.holding)
-  plan_as_path NoPath paths.NoPath none r s = tt
-  plan_as_path NoPath (paths.Path g) none r s = absurd (no_way_no_path g r s)
-  plan_as_path NoPath (paths.Floors floors) none r s = absurd s
-  plan_as_path NoPath (paths.Reached at) none r s = absurd s
-  plan_as_path NoPath (paths.Wall u v m n) none r s = absurd s
-  plan_as_path (Whole f) paths.NoStart none r s = absurd (s f.first r.start.holding)
-  plan_as_path (Whole f) paths.NoGoal none r s = absurd (s.no_goal r.last r.goal.holding)
-  plan_as_path (Whole f) paths.NoPath none r s = absurd (no_path_no_way f r s)
-  plan_as_path (Whole f) (paths.Path g) none r s = way_and_path f g none r s
-  plan_as_path (Whole f) (paths.Floors floors) none r s = absurd s
-  plan_as_path (Whole f) (paths.Reached at) none r s = absurd s
-  plan_as_path (Whole f) (paths.Wall u v m n) none r s = absurd s
+  plan_as_path free NoStart paths.NoStart none r s = tt
+  plan_as_path free NoStart paths.NoGoal none r s = absurd (r s.first s.start.holding)
+  plan_as_path free NoStart paths.NoPath none r s = absurd (r s.first s.start.holding)
+  plan_as_path free NoStart (paths.Path g) none r s = absurd (r g.first s.start.holding)
+  plan_as_path free NoStart (paths.Floors floors) none r s = absurd s
+  plan_as_path free NoStart (paths.Reached at) none r s = absurd s
+  plan_as_path free NoStart (paths.Wall u v m n) none r s = absurd s
+  plan_as_path free NoGoal paths.NoStart none r s = absurd (s r.first r.start.holding)
+  plan_as_path free NoGoal paths.NoGoal none r s = tt
+  plan_as_path free NoGoal paths.NoPath none r s = absurd (r.no_goal s.last s.goal.holding)
+  plan_as_path free NoGoal (paths.Path g) none r s = absurd (r.no_goal s.last s.goal.holding)
+  plan_as_path free NoGoal (paths.Floors floors) none r s = absurd s
+  plan_as_path free NoGoal (paths.Reached at) none r s = absurd s
+  plan_as_path free NoGoal (paths.Wall u v m n) none r s = absurd s
+  plan_as_path free NoPath paths.NoStart none r s = absurd (s r.first r.start.holding)
+  plan_as_path free NoPath paths.NoGoal none r s = absurd (s.no_goal r.last r.goal.holding)
+  plan_as_path free NoPath paths.NoPath none r s = tt
+  plan_as_path free NoPath (paths.Path g) none r s = absurd (no_way_no_path g r s)
+  plan_as_path free NoPath (paths.Floors floors) none r s = absurd s
+  plan_as_path free NoPath (paths.Reached at) none r s = absurd s
+  plan_as_path free NoPath (paths.Wall u v m n) none r s = absurd s
+  plan_as_path free (Whole f) paths.NoStart none r s = absurd (s f.first r.start.holding)
+  plan_as_path free (Whole f) paths.NoGoal none r s = absurd (s.no_goal r.last r.goal.holding)
+  plan_as_path free (Whole f) paths.NoPath none r s = absurd (no_path_no_way f r s)
+  plan_as_path free (Whole f) (paths.Path g) none r s = way_and_path f g none r s
+  plan_as_path free (Whole f) (paths.Floors floors) none r s = absurd s
+  plan_as_path free (Whole f) (paths.Reached at) none r s = absurd s
+  plan_as_path free (Whole f) (paths.Wall u v m n) none r s = absurd s
+  plan_as_path free (Limit n) b none r s = absurd (not_limited mesh query n free r)

@@ -1,6 +1,6 @@
 -- A sound mesh is a graph that may be searched through a filter.
-use Rattle.std.proofs.Common.{◌≡◌, ℕ, ◌+◌, ◌*◌, ◌≤◌, max, List, length, sym, subst, ap, arith}
-use Rattle.std.specs.Prelude.{All, Contains, Option, slice_index}
+use Rattle.std.proofs.Common.{inl, inr, ◌⊎◌, ◌≡◌, ℕ, ◌+◌, ◌*◌, ◌≤◌, max, List, length, sym, subst, ap, arith}
+use Rattle.std.specs.Prelude.{All, Contains, Err, IfOk, Ok, Option, Result, slice_index}
 use Rattle.std.specs.Option.{option_map_or}
 use Rattle.std.proofs.Math.Nat.{add-mul}
 use Rattle.std.proofs.lemmas.Nat.{mul-le}
@@ -21,6 +21,10 @@ use Rattle.mesh_types.specs.Soundness.{IsSound}
 use Rattle.mesh_types.specs.WholeMesh.{poly_at}
 use Rattle.graph_search.specs.declared.graph.Arc.{Arc}
 use Rattle.graph_search.specs.declared.graph.Vertex.{Vertex}
+use Rattle.graph_search.specs.declared.exploring.Explored.{Explored}
+use Rattle.graph_search.specs.declared.exploring.Limits.{Limits}
+use Rattle.graph_search.specs.Explored.{AreInOrder, AreLeast, AreLimited, AreReachedFrom, AreReachedOnce, CostAtMost, HasAllBelow, HasEnded, StopsAt}
+use Rattle.graph_search.specs.Exploring.{IsExplored}
 use Rattle.graph_search.specs.Walks.{IsSearchable}
 use Rattle.corridor_search.specs.MeshGraphs.{arc_over, links_from, polygon_of, vertices_of}
 use Rattle.corridor_search.specs.Estimates.{estimate_from}
@@ -108,3 +112,43 @@ filtered-rules mesh filter costs search aim least sound setting rules same are i
       most = is.most;
       below = least-below filter.areas costs search are least is;
     }
+
+-- what is searched with a heading, whose least cost is that of open areas or 0
+pub heading-rules : (mesh : Mesh) (filter : Filter) (costs search : List ℕ) (aim : Point) (least : ℕ) → IsSound mesh
+    → IsSetting mesh.setting → IsFilter filter
+    → costs ≡ costs_in mesh filter → AreSearchCosts filter.areas costs search → (least ≡ 0) ⊎ IsLeastCost filter.areas costs least → IsInField aim
+    → IsFiltered mesh search aim least
+heading-rules mesh filter costs search aim least sound setting rules same are (inr is) in_field =
+    filtered-rules mesh filter costs search aim least sound setting rules same are is in_field
+heading-rules mesh filter costs search aim least sound setting rules same are (inl none) in_field = record {
+  sound = sound;
+  setting = setting;
+  costs_are = search-costs filter.areas costs search are (subst AreCosts (sym same) (priced-costs mesh filter setting rules));
+  in_field = in_field;
+  most = omega (arith, none);
+  below = λ area is. omega (arith, none);
+}
+
+-- the clauses of a search, together
+pub explored-if : {E : Type 0} (arcs : Vertex → List Arc) (estimate : Vertex → ℕ) (from : Vertex) (stops : List Vertex) (limits : Limits) (count most : ℕ)
+    (r : Result Explored E)
+    → IfOk r (λ (f : Explored). AreReachedFrom arcs from f.reached.items) → IfOk r (λ (f : Explored). AreReachedOnce f.reached.items)
+    → IfOk r (λ (f : Explored). AreLeast arcs from f.reached.items) → IfOk r (λ (f : Explored). AreInOrder estimate f.reached.items)
+    → IfOk r (λ (f : Explored). AreLimited estimate limits f.reached.items)
+    → IfOk r (λ (f : Explored). HasAllBelow arcs estimate from f.seen f.reached.items)
+    → IfOk r (λ (f : Explored). StopsAt estimate stops f.reached.items f.seen) → IfOk r (λ (f : Explored). HasEnded stops limits f.reached.items f.seen)
+    → IfOk r (λ (f : Explored). CostAtMost most f.reached.items) → IfOk r (λ (f : Explored). length f.reached.items ≤ count)
+    → IfOk r (λ (f : Explored). IsExplored arcs estimate from stops limits count most f.reached.items f.seen)
+explored-if arcs estimate from stops limits count most (Err e) tree once least order limited within stopped ended few short = tt
+explored-if arcs estimate from stops limits count most (Ok f) tree once least order limited within stopped ended few short = record {
+  tree = tree;
+  once = once;
+  least = least;
+  order = order;
+  limited = limited;
+  within = within;
+  stopped = stopped;
+  ended = ended;
+  few = few;
+  short = short;
+}

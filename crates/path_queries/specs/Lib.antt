@@ -1,3 +1,6 @@
 pub mod Filters
 pub mod Plans
 pub mod FilteredGraphs
+pub mod Floods
+pub mod Searches
+pub mod Reaches

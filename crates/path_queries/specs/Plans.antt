@@ -1,6 +1,6 @@
--- Plans: which questions for a way may be asked, and which answers are right. The kind of a right answer is determined by the question, and
--- so are its first polygon and its cost; of several cheapest allowed walks, and of several taut lines through one, any is right.
-use Rattle.std.specs.Prelude.{◌≡◌, ◌<◌, ◌^◌, List, ⊤}
+-- Plans: which questions for a way may be asked, and which answers are right. Without limits the kind of a right answer is determined by the
+-- question, and so are its first polygon and its cost; of several cheapest allowed walks, and of several taut lines through one, any is right.
+use Rattle.std.specs.Prelude.{◌≡◌, ℕ, ◌<◌, ◌≤◌, ◌^◌, List, length, ⊤}
 use Rattle.nav_base.specs.Point.{HasCoordinates}
 use Rattle.mesh_types.specs.declared.answers.Answer.{Answer}
 use Rattle.mesh_types.specs.declared.answers.Answer.TheVariants as paths
@@ -8,13 +8,15 @@ use Rattle.mesh_types.specs.declared.answers.PathFound.{PathFound}
 use Rattle.mesh_types.specs.declared.links.Link.{Link}
 use Rattle.mesh_types.specs.declared.links.PolyRef.{PolyRef}
 use Rattle.mesh_types.specs.declared.mesh.Mesh.{Mesh}
+use Rattle.mesh_types.specs.Corridors.{cost_of}
 use Rattle.mesh_types.specs.Located.{IsLocated}
 use Rattle.mesh_types.specs.Right.{HasNoGoal, IsNowhere, portals_of}
 use Rattle.mesh_types.specs.Taut.{IsTaut}
 use Rattle.path_queries.specs.declared.plans.PathQuery.{PathQuery}
 use Rattle.path_queries.specs.declared.plans.PlanAnswer.{PlanAnswer}
-use Rattle.path_queries.specs.declared.plans.PlanAnswer.TheVariants.{Whole, NoStart, NoGoal, NoPath}
-use Rattle.path_queries.specs.Filters.{AllowedTo, IsCheapestAllowed, IsFilter}
+use Rattle.path_queries.specs.declared.plans.PlanAnswer.TheVariants.{Whole, Limit, NoStart, NoGoal, NoPath}
+use Rattle.path_queries.specs.Filters.{AllowedTo, IsCheapestAllowed, IsFilter, priced}
+use Rattle.path_queries.specs.Reaches.{ArePlanLimits, IsDeep}
 
 -- both points have coordinates, and the filter's own costs are costs
 pub record CanPlan (query : PathQuery) : Type 0 where
@@ -30,18 +32,38 @@ pub record HasNoWay (mesh : Mesh) (query : PathQuery) : Type 0 where
   pub goal : IsLocated mesh query.goal query.goal_y last
   pub no_walk : (links : List Link) → AllowedTo mesh query.filter.areas first links last → ⊥
 
+-- no limit may end a search: neither for cost nor for polygons, of which a mesh has at most 8000000
+pub record HasNoLimits (query : PathQuery) : Type 0 where
+  pub cost : 18446744073709551615 ≤ query.most_cost
+  pub polygons : 8000000 < query.most_polygons
+
+-- both places are held, each allowed walk that joins their polygons costs at least what was seen, and the search was cut no sooner than its
+-- limits say
+pub record IsLimited (mesh : Mesh) (query : PathQuery) (seen : ℕ) : Type 0 where
+  pub first : PolyRef
+  pub start : IsLocated mesh query.from query.from_y first
+  pub last : PolyRef
+  pub goal : IsLocated mesh query.goal query.goal_y last
+  pub beyond : (links : List Link) → AllowedTo mesh query.filter.areas first links last → seen ≤ cost_of (priced mesh query.filter) links
+  pub deep : IsDeep mesh query.filter.areas first query.most_cost query.most_polygons seen
+  pub limited : ArePlanLimits query.most_cost query.most_polygons
+
 -- a way begins in the polygon that locates the start; its links are a cheapest allowed walk from there to the polygon that locates the goal,
--- of the cost that it says, and its line is taut in the portals of those links
+-- of the cost that it says, and its line is taut in the portals of those links; it costs no more than the question allows, and has no more
+-- links than polygons that it allows
 pub record IsWay (mesh : Mesh) (query : PathQuery) (found : PathFound) : Type 0 where
   pub start : IsLocated mesh query.from query.from_y found.first
   pub last : PolyRef
   pub goal : IsLocated mesh query.goal query.goal_y last
   pub cheapest : IsCheapestAllowed mesh query.filter found.first last (record { cost = found.cost; links = found.links })
   pub taut : IsTaut query.from (portals_of found.links) query.goal found.turns
+  pub within_cost : found.cost ≤ query.most_cost
+  pub within_count : length found.links ≤ query.most_polygons
 
 -- an answer to a question for a way is right in a mesh
 abbrev pub IsPlan : PathQuery → Mesh → PlanAnswer → Type 0
 IsPlan query mesh (Whole found) = IsWay mesh query found
+IsPlan query mesh (Limit seen) = IsLimited mesh query seen
 IsPlan query mesh NoStart = IsNowhere mesh query.from query.from_y
 IsPlan query mesh NoGoal = HasNoGoal mesh query.from query.from_y query.goal query.goal_y
 IsPlan query mesh NoPath = HasNoWay mesh query
@@ -49,6 +71,7 @@ IsPlan query mesh NoPath = HasNoWay mesh query
 -- a way that was found costs less than 2 ^ 45
 abbrev pub HasLowWayCost : PlanAnswer → Type 0
 HasLowWayCost (Whole found) = found.cost < 2 ^ 45
+HasLowWayCost (Limit seen) = ⊤
 HasLowWayCost NoStart = ⊤
 HasLowWayCost NoGoal = ⊤
 HasLowWayCost NoPath = ⊤

@@ -3,15 +3,22 @@
 //! A filter has a bit for each of the 64 areas, and may have costs of its own. An allowed walk enters polygons of open areas alone; the
 //! polygon in which it begins is not entered, so that one who stands in a closed area walks out of it. `plan` gives a cheapest allowed walk
 //! with a taut line through its portals, and says that there is none exactly where no allowed walk leads to the goal's polygon. With all
-//! areas open and no costs of its own it answers as `nav_query` does. After Detour's `dtQueryFilter`, whose costs may also be less than 1.
+//! areas open and no costs of its own it answers as `nav_query` does. A question may limit the cost and the polygons of the search; where a
+//! limit ends it, the answer says what each allowed walk to the goal costs at least. After Detour's `dtQueryFilter`, whose costs may also be
+//! less than 1.
+//! `flood` gives the polygons to which allowed walks lead within a cost, each with what the cheapest of them costs.
 //!
 //! Points are in sixteenths of a cell, heights in the unit of the floors.
 #![tactic(auto)]
 
 mod filtered_graph;
 mod filters;
+mod floods;
 mod plans;
+mod reach;
+mod searches;
 
 pub use filters::Filter;
+pub use floods::{FloodAnswer, FloodQuery, Flooded, flood};
 pub use mesh_types::PathFound;
 pub use plans::{PathQuery, PlanAnswer, plan};

@@ -30,7 +30,7 @@ use Rattle.strip_mesh.proofs.LinkLaws.{link_leads, polygon_there}
 use Rattle.strip_mesh.proofs.RimLaws.{part_at_side, rim_placed}
 
 -- what holds of each strip's cells
-each_row : (cells : List Cell) → IsCut cells → All IsRow (strip_runs cells)
+pub each_row : (cells : List Cell) → IsCut cells → All IsRow (strip_runs cells)
 each_row cells cut k d there = subst IsRow (get_or_default (strip_runs cells) k [] d there) (row_is cells cut k there)
 
 each_inside : (setting : Setting) (free : FreeLayer) → IsCut free.cells → IsInTile setting free.tile free.cells

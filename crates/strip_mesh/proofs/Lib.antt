@@ -10,6 +10,7 @@ pub mod AwayLaws
 pub mod EndLaws
 pub mod RimLaws
 pub mod FitLaws
+pub mod StoreyLaws
 pub mod CellTotals
 pub mod RimTotals
 pub mod LinkTotals

@@ -9,15 +9,16 @@ ghost use Rattle.mesh_types.specs.StripCover.{CoversCells};
 ghost use Rattle.mesh_types.specs.StripPolygons.{strip_polygon};
 ghost use Rattle.mesh_types.specs.StripLinks.{strip_links};
 ghost use Rattle.mesh_types.specs.StripRim.{strip_rim};
-ghost use Rattle.mesh_types.specs.StripMeshes.{strip_mesh_of};
+ghost use Rattle.mesh_types.specs.StripMeshes.{strip_mesh_of, strip_storeys};
 ghost use Rattle.mono_regions.specs.Joining.{IsTableOf};
 ghost use Rattle.strip_mesh.specs.Indexed.{AreIndexed, runs_in};
 
 use crate::inner::inner_links;
 use crate::polygons::polygons;
 use crate::rim::rim;
+use crate::storeys::storeys;
 use crate::tile_strips::TileStrips;
-use mesh_types::{Links, Polygons, RimEdge, TileMesh};
+use mesh_types::{Links, Polygons, RimEdge, Storeys, TileMesh};
 use mono_regions::{StripTable, tabled_strips};
 use nav_ground::{FreeLayer, PackedFreeLayer, Setting, Window, tile_bounds};
 use nav_lists::{Duplicate, Items};
@@ -96,13 +97,19 @@ fn mesh(alloc: Global, strips: TileStrips, setting: &Setting) -> Result<TileMesh
 {
     let tile = strips.free.tile;
     let window = tile_bounds(setting, tile);
-    let StripParts { polys, links, rim } = strip_parts(alloc, &strips, &window)?;
+    let StripParts {
+        polys,
+        links,
+        rim,
+        storeys,
+    } = strip_parts(alloc, &strips, &window)?;
     Ok(TileMesh {
         tile,
         free: PackedFreeLayer::own(strips.into_free()),
         polys,
         links,
         rim,
+        storeys,
     })
 }
 
@@ -112,9 +119,10 @@ struct StripParts {
     polys: Polygons,
     links: Links,
     rim: Items<RimEdge>,
+    storeys: Storeys,
 }
 
-/// The polygons of strips, the links between them, and the rim.
+/// The polygons of strips, the links between them, the rim, and the storeys.
 fn strip_parts(
     alloc: Global,
     strips: &TileStrips,
@@ -124,9 +132,16 @@ fn strip_parts(
     ensures polys { IfOk result (λ parts. parts.polys ≡ map strip_polygon (runs_in strips.now)) }
     ensures links { IfOk result (λ parts. parts.links ≡ strip_links strips.now.free.tile (runs_in strips.now)) }
     ensures rim { IfOk result (λ parts. parts.rim ≡ strip_rim window.now (runs_in strips.now)) }
+    ensures storeys { IfOk result (λ parts. parts.storeys ≡ strip_storeys (runs_in strips.now)) }
 {
     let polys = polygons(alloc, strips)?;
     let links = inner_links(alloc, strips)?;
     let rim = rim(alloc, strips, window)?;
-    Ok(StripParts { polys, links, rim })
+    let storeys = storeys(alloc, strips)?;
+    Ok(StripParts {
+        polys,
+        links,
+        rim,
+        storeys,
+    })
 }

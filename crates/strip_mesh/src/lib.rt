@@ -11,6 +11,7 @@ mod build;
 mod inner;
 mod polygons;
 mod rim;
+mod storeys;
 mod tile_strips;
 
 pub use build::{strip_mesh, strip_mesh_of_table, strip_mesh_over};

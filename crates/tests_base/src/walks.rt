@@ -5,7 +5,7 @@ ghost use Rattle.graph_search.specs.Walks.{ends_of};
 ghost use Rattle.tests_base.specs.Rows.{vertex_at, pair_arc};
 
 use crate::checks::same;
-use graph_search::{Graph, Step, Vertex, Walk, cheapest_walk};
+use graph_search::{Explored, Graph, Limits, Step, Vertex, Walk, cheapest_walk, explore};
 use std::alloc::{AllocError, Global};
 use std::process::Abort;
 
@@ -166,5 +166,49 @@ fn has_steps(walk: &Option<Walk>, steps: &[Step]) -> bool {
 fn gives_the_steps(rt: HostRuntime) -> Result<(), AllocError> {
     let walk = cheapest(rt.alloc(), 0, 4)?;
     assert!(rt; has_steps(&walk, &STEPS));
+    Ok(())
+}
+
+/// What a search from a place closes within limits, up to one of two places.
+fn within(alloc: Global, from: u32, stops: [u32; 2], limits: Limits) -> Result<Explored, AllocError>
+    requires { from < 10 }
+{
+    let stops = [at(stops[0]), at(stops[1])];
+    explore(alloc, &Rows { rows: &ROWS }, at(from), &stops, limits)
+}
+
+/// Where a search begins, two places at which it stops, the greatest cost and how many vertices; then how many it closed, the last of
+/// them with its cost and the place before it, and how far it has seen.
+static LIMITED: [(u32, [u32; 2], u64, usize, (usize, u32, u64, usize, u64)); 8] = [
+    (0, [9, 9], u64::MAX, usize::MAX, (6, 6, 90, 4, u64::MAX)),
+    (0, [9, 9], 79, 9, (2, 1, 40, 0, 80)),
+    (0, [9, 9], 80, 9, (3, 3, 80, 1, 90)),
+    (0, [9, 9], u64::MAX, 2, (2, 1, 40, 0, 80)),
+    (0, [9, 9], 0, 0, (1, 0, 0, 0, 40)),
+    (0, [3, 4], u64::MAX, 9, (3, 3, 80, 1, 80)),
+    (0, [0, 4], 0, 0, (1, 0, 0, 0, 0)),
+    (2, [9, 9], 5, 5, (1, 2, 0, 0, u64::MAX)),
+];
+
+/// How many vertices a search closed, the last of them, and how far it has seen.
+fn told(explored: &Explored) -> (usize, u32, u64, usize, u64) {
+    let count = explored.reached.len();
+    match explored.reached.as_slice().last() {
+        Some(last) => (count, last.vertex.place, last.cost, last.via, explored.seen),
+        None => (0, 0, 0, 0, 0),
+    }
+}
+
+#[test]
+fn searches_within_limits(rt: HostRuntime) -> Result<(), AllocError> {
+    for (from, stops, key, count, wanted) in &LIMITED {
+        assert!(&rt; *from < 10);
+        let limits = Limits {
+            key: *key,
+            count: *count,
+        };
+        let explored = within(rt.alloc(), *from, *stops, limits)?;
+        same(&rt, told(&explored), *wanted);
+    }
     Ok(())
 }

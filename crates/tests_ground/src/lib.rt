@@ -25,6 +25,8 @@ mod neighbours;
 #[cfg(test)]
 mod open_cells;
 #[cfg(test)]
+mod prisms;
+#[cfg(test)]
 mod queues;
 #[cfg(test)]
 mod rows;

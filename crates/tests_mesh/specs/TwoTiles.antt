@@ -5,6 +5,7 @@ use Rattle.mesh_types.specs.declared.polygon.Polygon.{Polygon}
 use Rattle.mesh_types.specs.declared.mesh.LevelPair.{LevelPair}
 use Rattle.mesh_types.specs.declared.mesh.RimEdge.{RimEdge}
 use Rattle.mesh_types.specs.declared.mesh.TileMesh.{TileMesh}
+use Rattle.mesh_types.specs.Storeys.{no_storeys}
 use Rattle.tests_mesh.specs.HandSettings.{point}
 
 -- the rectangle of two columns and four rows from a column on
@@ -21,7 +22,7 @@ levels own other = record { own = own; other = other }
 
 -- a tile without inner links
 abbrev pub hand_tile : ℕ → List Polygon → List RimEdge → TileMesh
-hand_tile tile polys rim = record { tile = tile; free = record { tile = tile; cells = [] }; polys = polys; links = []; rim = rim }
+hand_tile tile polys rim = record { tile = tile; free = record { tile = tile; cells = [] }; polys = polys; links = []; rim = rim; storeys = no_storeys }
 
 -- along the border the left tile leads to level 0, twice to level 1, and to level 0 again
 abbrev pub left_entry : RimEdge

@@ -8,7 +8,8 @@ ghost use Rattle.tests_mesh.specs.TwoTiles.{hand_polygon, hand_tile, left_tile, 
 
 use crate::rows::{all_hold, hold};
 use mesh_types::{
-    Corners, LevelPair, Link, Links, Mesh, PolyRef, Polygon, Polygons, Portal, RimEdge, TileMesh,
+    Corners, LevelPair, Link, Links, Mesh, PolyRef, Polygon, Polygons, Portal, RimEdge, Storeys,
+    TileMesh,
 };
 use nav_base::Point;
 use nav_ground::{AREAS, Agent, Direction, FreeLayer, MeshKind, PackedFreeLayer, Setting, TileNo};
@@ -72,6 +73,7 @@ pub(crate) fn tile(
         polys: Polygons::from_vec(alloc, polys)?,
         links,
         rim: Items::from_vec(rim),
+        storeys: Storeys::none(alloc),
     })
 }
 

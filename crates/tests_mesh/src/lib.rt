@@ -33,6 +33,8 @@ mod rows;
 mod stacks;
 pub mod stored;
 #[cfg(test)]
+mod storeys;
+#[cfg(test)]
 mod strip_meshes;
 #[cfg(test)]
 mod strips;

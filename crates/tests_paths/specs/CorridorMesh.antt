@@ -6,6 +6,7 @@ use Rattle.mesh_types.specs.declared.links.Link.{Link}
 use Rattle.mesh_types.specs.declared.mesh.Mesh.{Mesh}
 use Rattle.mesh_types.specs.declared.polygon.Polygon.{Polygon}
 use Rattle.mesh_types.specs.declared.mesh.TileMesh.{TileMesh}
+use Rattle.mesh_types.specs.Storeys.{no_storeys}
 use Rattle.tests_mesh.specs.HandSettings.{costly_setting, point, triangle}
 
 abbrev pub left_lower : Polygon
@@ -40,6 +41,7 @@ hand_tile tile lower upper link = record {
   polys = lower ∷ upper ∷ [];
   links = link ∷ [];
   rim = [];
+  storeys = no_storeys;
 }
 
 abbrev pub left_tile : TileMesh

@@ -6,6 +6,7 @@ use Rattle.nav_ground.specs.declared.setting.MeshKind.TheVariants.{Strips}
 use Rattle.mesh_types.specs.declared.mesh.Mesh.{Mesh}
 use Rattle.mesh_types.specs.declared.polygon.Polygon.{Polygon}
 use Rattle.mesh_types.specs.declared.mesh.TileMesh.{TileMesh}
+use Rattle.mesh_types.specs.Storeys.{no_storeys}
 
 -- 8 by 4 columns in one tile
 abbrev pub one_tile : Setting
@@ -47,6 +48,7 @@ hand_tile = record {
   polys = flat left_cell ∷ flat right_cell ∷ flat wedge ∷ flat sliver ∷ [];
   links = [];
   rim = [];
+  storeys = no_storeys;
 }
 
 abbrev pub hand_mesh : Mesh

@@ -4,6 +4,7 @@ use Rattle.std.specs.Prelude.{ℕ, ◌+◌, List, [], ◌∷◌}
 use Rattle.mesh_types.specs.declared.mesh.Mesh.{Mesh}
 use Rattle.mesh_types.specs.declared.polygon.Polygon.{Polygon}
 use Rattle.mesh_types.specs.declared.mesh.TileMesh.{TileMesh}
+use Rattle.mesh_types.specs.Storeys.{no_storeys}
 use Rattle.tests_mesh.specs.HandSettings.{plain_setting, point, triangle}
 
 -- the triangle on four cells of the lowest row from a column on, that reaches four cells up at another column
@@ -12,7 +13,7 @@ hand_polygon x top low = triangle 1 low (low + 2) (point x 0) (point (x + 4) 0) 
 
 -- a tile of polygons without links
 abbrev pub hand_tile : ℕ → List Polygon → TileMesh
-hand_tile tile polys = record { tile = tile; free = record { tile = tile; cells = [] }; polys = polys; links = []; rim = [] }
+hand_tile tile polys = record { tile = tile; free = record { tile = tile; cells = [] }; polys = polys; links = []; rim = []; storeys = no_storeys }
 
 abbrev pub left_tile : TileMesh
 left_tile = hand_tile 0 (hand_polygon 0 4 0 ∷ hand_polygon 0 4 4 ∷ [])

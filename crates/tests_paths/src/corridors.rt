@@ -15,7 +15,7 @@ use crate::settings::PLAIN;
 use corridor_search::{Landmarks, cheapest_by, landmarks_of};
 use mesh_locate::locate;
 use mesh_types::{
-    Corners, Corridor, Link, Links, Mesh, PolyRef, Polygon, Polygons, Portal, TileMesh,
+    Corners, Corridor, Link, Links, Mesh, PolyRef, Polygon, Polygons, Portal, Storeys, TileMesh,
 };
 use nav_base::Point;
 use nav_ground::{AREAS, FreeLayer, PackedFreeLayer, Setting};
@@ -72,6 +72,7 @@ fn tile(
         polys: Polygons::from_vec(alloc, polys)?,
         links,
         rim: Items::new(alloc),
+        storeys: Storeys::none(alloc),
     };
     Ok(Shared::new(alloc, made)?)
 }

@@ -6,7 +6,7 @@ ghost use Rattle.surface_move.specs.Moves.{AreThere};
 ghost use Rattle.tests_paths.specs.PartMesh.{flat, hand_mesh, hand_tile, left_cell, right_cell, sliver, wedge};
 
 use crate::rows::all_hold;
-use mesh_types::{Corners, Links, Mesh, PolyRef, Polygon, Polygons, TileMesh, poly};
+use mesh_types::{Corners, Links, Mesh, PolyRef, Polygon, Polygons, Storeys, TileMesh, poly};
 use nav_base::Point;
 use nav_ground::{AREAS, Agent, FreeLayer, MeshKind, PackedFreeLayer, Setting};
 use nav_lists::{Chunks, Items, Shared};
@@ -106,6 +106,7 @@ fn tile(alloc: Global) -> Result<TileMesh, AllocError>
         polys: Polygons::from_vec(alloc, polys)?,
         links,
         rim: Items::new(alloc),
+        storeys: Storeys::none(alloc),
     })
 }
 

@@ -6,7 +6,7 @@ ghost use Rattle.tests_paths.specs.PlaceMesh.{hand_mesh, hand_polygon, hand_tile
 use crate::rows::all_hold;
 use crate::settings::PLAIN;
 use mesh_locate::locate;
-use mesh_types::{Corners, Links, Mesh, PolyRef, Polygon, Polygons, TileMesh};
+use mesh_types::{Corners, Links, Mesh, PolyRef, Polygon, Polygons, Storeys, TileMesh};
 use nav_base::Point;
 use nav_ground::{FreeLayer, PackedFreeLayer};
 use nav_lists::{Chunks, Items, Shared};
@@ -52,6 +52,7 @@ fn tile(alloc: Global, tile: u32, polys: Vec<Polygon>) -> Result<Shared<TileMesh
         polys: Polygons::from_vec(alloc, polys)?,
         links,
         rim: Items::new(alloc),
+        storeys: Storeys::none(alloc),
     };
     Ok(Shared::new(alloc, made)?)
 }

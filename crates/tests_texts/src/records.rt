@@ -102,97 +102,91 @@ fn writes_the_other_lines(rt: HostRuntime) {
     check_text(&rt, out.as_slice(), wanted);
 }
 
-/// An entry with the number 262144, and its line.
-static ENTRIES: [(Entry, &str); 6] = [
-    (
-        Entry {
-            lane: 0,
-            request: Request::Add(Shape::Block {
-                x0: 40,
-                x1: 55,
-                y0: 0,
-                y1: 100,
-                z0: 41,
-                z1: 56,
-            }),
-            reply: Reply::Added { number: 262144 },
-        },
-        "entry 262144 0 add block 40 55 0 100 41 56 added\n",
-    ),
-    (
-        Entry {
-            lane: 15,
-            request: Request::Add(Shape::Cylinder {
-                cx: 2048,
-                cz: 0,
-                r: 1023,
-                y0: 1,
-                y1: 8191,
-            }),
-            reply: Reply::Full { live: 1024 },
-        },
-        "entry 262144 15 add cylinder 2048 0 1023 1 8191 full 1024\n",
-    ),
-    (
-        Entry {
-            lane: 4294967295,
-            request: Request::Remove(7),
-            reply: Reply::Removed,
-        },
-        "entry 262144 4294967295 remove 7 removed\n",
-    ),
-    (
-        Entry {
-            lane: 2,
-            request: Request::Remove(4294967295),
-            reply: Reply::Dead { number: 4294967295 },
-        },
-        "entry 262144 2 remove 4294967295 dead 4294967295\n",
-    ),
-    (
-        Entry {
-            lane: 1,
-            request: Request::Add(Shape::AreaBlock {
-                area: 5,
-                x0: 1,
-                x1: 2,
-                y0: 3,
-                y1: 4,
-                z0: 6,
-                z1: 7,
-            }),
-            reply: Reply::Added { number: 8 },
-        },
-        "entry 262144 1 add area 5 block 1 2 3 4 6 7 added\n",
-    ),
-    (
-        Entry {
-            lane: 1,
-            request: Request::Add(Shape::AreaCylinder {
-                area: 63,
-                cx: 1,
-                cz: 2,
-                r: 3,
-                y0: 4,
-                y1: 5,
-            }),
-            reply: Reply::Added { number: 8 },
-        },
-        "entry 262144 1 add area 63 cylinder 1 2 3 4 5 added\n",
-    ),
+/// Entries with the number 262144.
+static ENTRIES: [Entry; 6] = [
+    Entry {
+        lane: 0,
+        request: Request::Add(Shape::Block {
+            x0: 40,
+            x1: 55,
+            y0: 0,
+            y1: 100,
+            z0: 41,
+            z1: 56,
+        }),
+        reply: Reply::Added { number: 262144 },
+    },
+    Entry {
+        lane: 15,
+        request: Request::Add(Shape::Cylinder {
+            cx: 2048,
+            cz: 0,
+            r: 1023,
+            y0: 1,
+            y1: 8191,
+        }),
+        reply: Reply::Full { live: 1024 },
+    },
+    Entry {
+        lane: 4294967295,
+        request: Request::Remove(7),
+        reply: Reply::Removed,
+    },
+    Entry {
+        lane: 2,
+        request: Request::Remove(4294967295),
+        reply: Reply::Dead { number: 4294967295 },
+    },
+    Entry {
+        lane: 1,
+        request: Request::Add(Shape::AreaBlock {
+            area: 5,
+            x0: 1,
+            x1: 2,
+            y0: 3,
+            y1: 4,
+            z0: 6,
+            z1: 7,
+        }),
+        reply: Reply::Added { number: 8 },
+    },
+    Entry {
+        lane: 1,
+        request: Request::Add(Shape::AreaCylinder {
+            area: 63,
+            cx: 1,
+            cz: 2,
+            r: 3,
+            y0: 4,
+            y1: 5,
+        }),
+        reply: Reply::Added { number: 8 },
+    },
 ];
 
-fn check_entries(rt: &impl Abort, alloc: Global, entries: &[(Entry, &str)]) {
-    for (entry, wanted) in entries {
+/// The line of each.
+static ENTRY_LINES: [&str; 6] = [
+    "entry 262144 0 add block 40 55 0 100 41 56 added\n",
+    "entry 262144 15 add cylinder 2048 0 1023 1 8191 full 1024\n",
+    "entry 262144 4294967295 remove 7 removed\n",
+    "entry 262144 2 remove 4294967295 dead 4294967295\n",
+    "entry 262144 1 add area 5 block 1 2 3 4 6 7 added\n",
+    "entry 262144 1 add area 63 cylinder 1 2 3 4 5 added\n",
+];
+
+fn check_entries(rt: &impl Abort, alloc: Global, entries: &[Entry], lines: &[&str]) {
+    for (at, entry) in entries.iter().enumerate() {
         let mut out = Vec::new(alloc);
         write_entry(&mut out, 262144, entry).expect(rt, "memory");
+        let wanted = lines.get(at).copied().unwrap_or("");
         check_text(rt, out.as_slice(), wanted);
     }
 }
 
 #[test]
 fn writes_entries(rt: HostRuntime) {
-    check_entries(&rt, rt.alloc(), &ENTRIES);
+    let entries = ENTRIES;
+    check_entries(&rt, rt.alloc(), &entries, &ENTRY_LINES);
 }
 
 #[test]

@@ -69,6 +69,7 @@ fn over_layer(alloc: Global, layer: &Layer, tile: TileMesh) -> Result<TileMesh, 
         polys: tile.polys,
         links: tile.links,
         rim: tile.rim,
+        storeys: tile.storeys,
     })
 }
 

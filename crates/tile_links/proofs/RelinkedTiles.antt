@@ -10,6 +10,7 @@ use Rattle.nav_ground.specs.declared.setting.Setting.{Setting}
 use Rattle.mesh_types.specs.declared.links.Link.{Link}
 use Rattle.mesh_types.specs.declared.mesh.TileMesh.{TileMesh}
 use Rattle.mesh_types.specs.Soundness.{AreTiles}
+use Rattle.mesh_types.specs.Storeys.{no_storeys}
 use Rattle.mesh_types.specs.WholeMesh.{cross_links}
 use Rattle.tile_links.specs.NearTiles.{IsMarked}
 use Rattle.tile_links.specs.NewTiles.{New, AreRising, is_near_new, tile_after, tiles_after}
@@ -110,7 +111,7 @@ relinked_more setting tiles cross after done place tile links so_far there at ar
 
 -- a tile of nothing
 abbrev no_tile : TileMesh
-no_tile = record { tile = 0; free = record { tile = 0; cells = [] }; polys = []; links = []; rim = [] }
+no_tile = record { tile = 0; free = record { tile = 0; cells = [] }; polys = []; links = []; rim = []; storeys = no_storeys }
 
 -- once those near the new tile meshes are made again, all are right
 pub relinked_all : (setting : Setting) (news : List New) (tiles : List TileMesh) (cross after : List (List Link)) (done : List Bool) → AreTiles setting tiles

@@ -15,15 +15,30 @@
 mod heap;
 mod jobs;
 mod looks;
+mod places;
 mod sys;
 mod walks;
+mod ways;
 
 use std::fmt;
 use std::ptr::null_mut;
 pub use jobs::Job;
 pub use looks::{Obstacle, Shape};
-pub use sys::{Block, Corner, Counts, Cylinder, Face, Floor, Jump, Link, Point, Polygon, Shown, Turn};
+pub use places::{MeshPlace, Near};
+pub use sys::{
+    Block, Corner, Counts, Cylinder, Disc, Face, Floor, Jump, Link, Point, Polygon, Prism, Reached, Shown, Turn,
+};
 pub use walks::{Hop, Step, Walker};
+pub use ways::{Checked, Filter, Limits, Planned};
+
+/// The version of the library, as major * 10000 + minor * 100 + patch.
+pub fn version() -> u32 {
+    // SAFETY: it takes nothing.
+    unsafe { sys::navd_version() }
+}
+
+/// The version of the library that this crate was written for.
+pub const VERSION: u32 = sys::VERSION;
 
 /// Why a call was refused.
 #[derive(Clone, Copy, Debug, PartialEq, Eq)]
@@ -162,6 +177,16 @@ impl Level {
     /// Adds a cylinder, likewise.
     pub fn add_cylinder(&mut self, cylinder: &Cylinder, area: u32) -> Result<u32, Error> {
         done(self.number(|level, entry| unsafe { sys::navd_add_cylinder(level, cylinder, area, entry) }))
+    }
+
+    /// Adds a prism, likewise.
+    pub fn add_prism(&mut self, prism: &Prism, area: u32) -> Result<u32, Error> {
+        done(self.number(|level, entry| unsafe { sys::navd_add_prism(level, prism, area, entry) }))
+    }
+
+    /// Adds a disc, likewise.
+    pub fn add_disc(&mut self, disc: &Disc, area: u32) -> Result<u32, Error> {
+        done(self.number(|level, entry| unsafe { sys::navd_add_disc(level, disc, area, entry) }))
     }
 
     /// Removes the obstacle with a number; the number of the entry.

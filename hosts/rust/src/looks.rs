@@ -10,10 +10,24 @@ pub struct Obstacle {
     pub shape: Shape,
 }
 
+/// What an obstacle is. Of prisms and discs no numbers are told.
 #[derive(Clone, Copy)]
 pub enum Shape {
     Block(Block),
     Cylinder(Cylinder),
+    Prism,
+    Disc,
+}
+
+impl Shape {
+    fn of(it: &sys::Obstacle) -> Shape {
+        match it.kind {
+            0 => Shape::Block(it.block),
+            1 => Shape::Cylinder(it.cylinder),
+            2 => Shape::Prism,
+            _ => Shape::Disc,
+        }
+    }
 }
 
 /// All that a call lays into a room, and tells the count of.
@@ -58,11 +72,7 @@ impl Level {
         let cylinder = Cylinder { cx: 0, cz: 0, r: 0, y0: 0, y1: 0 };
         let empty = sys::Obstacle { number: 0, area: 0, kind: 0, block, cylinder };
         let told = all(empty, |obstacles, room, count| unsafe { sys::navd_obstacles(&mut self.handle, obstacles, room, count) })?;
-        let of = |it: sys::Obstacle| Obstacle {
-            number: it.number,
-            area: it.area,
-            shape: if it.kind == 0 { Shape::Block(it.block) } else { Shape::Cylinder(it.cylinder) },
-        };
+        let of = |it: sys::Obstacle| Obstacle { number: it.number, area: it.area, shape: Shape::of(&it) };
         Ok(told.into_iter().map(of).collect())
     }
 }

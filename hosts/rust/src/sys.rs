@@ -3,6 +3,8 @@
 
 use std::ffi::c_void;
 
+pub const VERSION: u32 = 100;
+
 pub const OK: u32 = 0;
 pub const NO_MEMORY: u32 = 1;
 pub const EMPTY: u32 = 2;
@@ -22,6 +24,9 @@ pub const STALE: u32 = 15;
 pub const FOREIGN: u32 = 16;
 pub const BUSY: u32 = 17;
 pub const TOO_MANY_SPANS: u32 = 18;
+pub const LIMIT: u32 = 20;
+pub const CUT: u32 = 21;
+pub const NO_PLACE: u32 = 22;
 
 #[repr(C)]
 pub struct Handle {
@@ -52,6 +57,27 @@ pub struct Block {
 pub struct Cylinder {
     pub cx: u32,
     pub cz: u32,
+    pub r: u32,
+    pub y0: u32,
+    pub y1: u32,
+}
+
+/// How many corners a base has, these counterclockwise, in sixteenths of a cell, and heights.
+#[repr(C)]
+#[derive(Clone, Copy, Default, Debug, PartialEq, Eq)]
+pub struct Prism {
+    pub corners: u32,
+    pub point: [Point; 6],
+    pub y0: u32,
+    pub y1: u32,
+}
+
+/// A centre and a radius in sixteenths of a cell, and heights.
+#[repr(C)]
+#[derive(Clone, Copy, Default, Debug, PartialEq, Eq)]
+pub struct Disc {
+    pub x: i32,
+    pub z: i32,
     pub r: u32,
     pub y0: u32,
     pub y1: u32,
@@ -196,6 +222,70 @@ pub struct Shown {
 }
 
 #[repr(C)]
+#[derive(Clone, Copy)]
+pub struct Plan {
+    pub way: Way,
+    pub areas: u64,
+    pub most_cost: u64,
+    pub most_polygons: usize,
+    pub cost: u64,
+    pub seen: u64,
+    pub first: Polygon,
+    pub links: usize,
+    pub turns: usize,
+}
+
+#[repr(C)]
+#[derive(Clone, Copy)]
+pub struct Kept {
+    pub way: Way,
+    pub first: Polygon,
+    pub areas: u64,
+    pub cost: u64,
+    pub links: usize,
+    pub turns: usize,
+}
+
+#[repr(C)]
+#[derive(Clone, Copy)]
+pub struct Flood {
+    pub at: Point,
+    pub y: u32,
+    pub areas: u64,
+    pub most_cost: u64,
+    pub polygons: usize,
+}
+
+/// A polygon of a flood, what a cheapest walk to it costs, and the place in the list of the polygon before it on such a walk.
+#[repr(C)]
+#[derive(Clone, Copy, Default, Debug, PartialEq, Eq)]
+pub struct Reached {
+    pub polygon: Polygon,
+    pub cost: u64,
+    pub via: usize,
+}
+
+#[repr(C)]
+#[derive(Clone, Copy, Default)]
+pub struct Place {
+    pub polygon: Polygon,
+    pub at: Point,
+    pub y: u32,
+}
+
+#[repr(C)]
+#[derive(Clone, Copy)]
+pub struct Near {
+    pub areas: u64,
+    pub at: Point,
+    pub y: u32,
+    pub reach: u32,
+    pub down: u32,
+    pub up: u32,
+    pub weight: u32,
+}
+
+#[repr(C)]
 #[derive(Clone, Copy, Default)]
 pub struct Fault {
     pub line: u32,
@@ -214,10 +304,13 @@ pub struct Counts {
 }
 
 extern "C" {
+    pub fn navd_version() -> u32;
     pub fn navd_open(level: *mut Handle, text: *const u8, length: usize, fault: *mut Fault) -> u32;
     pub fn navd_close(level: *mut Handle);
     pub fn navd_add_block(level: *mut Handle, block: *const Block, area: u32, entry: *mut u32) -> u32;
     pub fn navd_add_cylinder(level: *mut Handle, cylinder: *const Cylinder, area: u32, entry: *mut u32) -> u32;
+    pub fn navd_add_prism(level: *mut Handle, prism: *const Prism, area: u32, entry: *mut u32) -> u32;
+    pub fn navd_add_disc(level: *mut Handle, disc: *const Disc, area: u32, entry: *mut u32) -> u32;
     pub fn navd_remove(level: *mut Handle, number: u32, entry: *mut u32) -> u32;
     pub fn navd_settle(level: *mut Handle, published: *mut u32) -> u32;
     pub fn navd_aim(level: *mut Handle, target: *mut u32) -> u32;
@@ -291,4 +384,35 @@ extern "C" {
         path: *mut Path,
     ) -> u32;
     pub fn navd_view_cast_ray(view: *mut Handle, way: *const Way, ray: *mut Ray) -> u32;
+    pub fn navd_view_check_path(
+        view: *mut Handle,
+        kept: *mut Kept,
+        costs: *const u32,
+        costs_count: usize,
+        links: *mut Link,
+        count: usize,
+        turns: *mut Turn,
+        turns_room: usize,
+    ) -> u32;
+    pub fn navd_view_flood(
+        view: *mut Handle,
+        flood: *mut Flood,
+        costs: *const u32,
+        costs_count: usize,
+        reached: *mut Reached,
+        room: usize,
+    ) -> u32;
+    pub fn navd_view_plan(
+        view: *mut Handle,
+        plan: *mut Plan,
+        costs: *const u32,
+        costs_count: usize,
+        links: *mut Link,
+        links_room: usize,
+        turns: *mut Turn,
+        turns_room: usize,
+    ) -> u32;
+    pub fn navd_view_nearest(view: *mut Handle, near: *const Near, place: *mut Place) -> u32;
+    pub fn navd_view_height(view: *mut Handle, place: *mut Place) -> u32;
+    pub fn navd_view_is_place(view: *mut Handle, place: *const Place) -> u32;
 }

@@ -1,5 +1,8 @@
 //! A level that is opened, changed, drawn and asked, with a crate across its room.
-use navd::{place, Block, Jump, Level, Ray, Shape, View};
+use navd::{
+    place, version, Block, Checked, Disc, Error, Filter, Jump, Level, Limits, Near, NoWay, Planned, Point, Prism,
+    Ray, Shape, VERSION, View,
+};
 use std::thread;
 
 const TEXT: &[u8] = include_bytes!("../../../examples/storeroom.nav");
@@ -33,6 +36,26 @@ fn a_crate_comes_and_goes() {
 }
 
 #[test]
+fn a_prism_stops_as_the_block_that_it_fills() {
+    let (from, to) = (place(40, 40, 10), place(40, 120, 10));
+    let mut level = Level::open(TEXT).unwrap();
+    let number = level.add_block(&CRATE, 0).unwrap();
+    level.settle().unwrap();
+    let due = level.find_path(from, to).unwrap().unwrap().cost;
+    level.remove(number).unwrap();
+    let [a, b, c, d] = [(16, 64), (144, 64), (144, 96), (16, 96)].map(|(x, z)| Point { x, z });
+    let prism = Prism { corners: 4, point: [a, b, c, d, a, a], y0: 0, y1: 100 };
+    level.add_prism(&prism, 0).unwrap();
+    level.settle().unwrap();
+    assert_eq!(level.find_path(from, to).unwrap().unwrap().cost, due);
+    level.add_disc(&Disc { x: 16, z: 16, r: 1, y0: 0, y1: 100 }, 5).unwrap();
+    let told: Vec<_> = level.obstacles().unwrap().iter().map(|it| (it.area, it.shape)).collect();
+    assert!(matches!(told[..], [(0, Shape::Prism), (5, Shape::Disc)]));
+    let clockwise = Prism { point: [d, c, b, a, a, a], ..prism };
+    assert_eq!(level.add_prism(&clockwise, 0), Err(Error::OutOfRange));
+}
+
+#[test]
 fn views_and_jobs_go_to_other_threads() {
     let mut level = Level::open(TEXT).unwrap();
     let mut view = View::of(&mut level).unwrap();
@@ -50,4 +73,43 @@ fn views_and_jobs_go_to_other_threads() {
     view.look(&mut level).unwrap();
     let after = view.find_path(place(40, 40, 10), place(40, 120, 10)).unwrap().unwrap().cost;
     assert!(before < after && after == 7 * own);
+}
+
+#[test]
+fn a_kept_path_is_checked() {
+    let (from, to) = (place(40, 40, 10), place(40, 120, 10));
+    let mut level = Level::open(TEXT).unwrap();
+    let mut view = View::of(&mut level).unwrap();
+    let Planned::Whole(path) = view.plan(from, to, Filter::default(), Limits::default()).unwrap().unwrap() else { panic!("no way") };
+    assert_eq!(path.cost, view.find_path(from, to).unwrap().unwrap().cost);
+    let dear = Filter { areas: u64::MAX, costs: &[7; 64] };
+    assert!(matches!(view.plan(from, to, dear, Limits::default()), Ok(Ok(Planned::Whole(it))) if it.cost == 7 * path.cost));
+    assert!(matches!(view.plan(from, to, dear, Limits { cost: path.cost, ..Limits::default() }), Ok(Ok(Planned::Limit(_)))));
+    assert_eq!(view.check(&path, from, to, Filter::default()).unwrap().unwrap(), Checked::Whole(path.clone()));
+    let reached = view.flood(from, path.cost, Filter::default()).unwrap().unwrap();
+    assert!(reached[0].polygon == path.first && reached.iter().any(|it| it.polygon == path.links.last().unwrap().to && it.cost == path.cost));
+    level.add_block(&CRATE, 0).unwrap();
+    level.settle().unwrap();
+    view.look(&mut level).unwrap();
+    match view.check(&path, from, to, Filter::default()).unwrap() {
+        Ok(Checked::Whole(now)) => assert!(now.links.len() == path.links.len()),
+        Ok(Checked::Cut(now)) => assert!(now.links.len() <= path.links.len() && now.turns.is_empty()),
+        Err(why) => assert_eq!(why, NoWay::NoStart),
+    }
+    assert_eq!(version(), VERSION);
+}
+
+#[test]
+fn places_are_found() {
+    let mut level = Level::open(TEXT).unwrap();
+    let mut view = View::of(&mut level).unwrap();
+    let under = view.nearest(place(40, 40, 10), Near::default()).unwrap().unwrap();
+    assert_eq!(under.at, place(40, 40, 10));
+    assert!(view.is_place(under).unwrap());
+    assert_eq!(view.height(under).unwrap(), Some(under));
+    assert_eq!(view.nearest(place(-4096, 40, 10), Near::default()).unwrap(), None);
+    let aside = view.nearest(place(-4096, 40, 10), Near { reach: 8192, ..Near::default() }).unwrap().unwrap();
+    assert!(0 <= aside.at.at.x && view.is_place(aside).unwrap());
+    let above = navd::MeshPlace { at: place(40, 40, 11), ..under };
+    assert!(!view.is_place(above).unwrap() && view.height(above).unwrap() == Some(under));
 }

@@ -1,84 +1,72 @@
-use Rattle.std.proofs.Common.{◌≡◌, ℕ, ◌+◌, ◌*◌, ◌≤◌, ◌∙◌, List, ◌∷◌, arith, sym, ap, subst, length}
-use Rattle.std.specs.Prelude.{All, Option, Some, IfSome}
-use Rattle.std.specs.List.Sorted.{IsPermutation}
+use Rattle.std.proofs.Common.{◌≡◌, ℕ, ◌+◌, ◌*◌, ◌≤◌, ◌∙◌, arith, sym, ap, subst, length}
 use Rattle.std.proofs.lemmas.Result.{IfOk-from_err}
 use Rattle.graph_search.specs.declared.graph.Vertex.{Vertex}
 use Rattle.graph_search.specs.declared.visits.Visit.{Visit}
-use Rattle.graph_search.specs.declared.radix_heap.HeapEntry.{HeapEntry}
 use Rattle.graph_search.specs.Visited.{visit_at, IsClosed}
 use Rattle.graph_search.specs.Entries.{Queue}
 use Rattle.graph_search.specs.Searching.{IsKnown}
 use Rattle.graph_search.proofs.Writing.{same_if, apart_if_not}
 use Rattle.graph_search.proofs.WayBack.{ranked-tree}
-use Rattle.graph_search.proofs.Turns.{between-begun, work-dropped, between-dropped, closed-fewer, turn-tree, cheapest, vertex-key, vertex-member, turn-few, turn-known, turn-closing, turn-relaxing, work-turned, between-turned, apart, none_left, IsBetween}
+use Rattle.graph_search.proofs.Turns.{taken_of, least_of, last_of, between-begun, work-dropped, between-dropped, closed-fewer, turn-tree, cheapest, vertex-key, vertex-member, turn-few, turn-known, turn-closing, turn-relaxing, work-turned, between-turned, goal-turned, apart, none_left, IsBetween}
 use Rattle.graph_search.proofs.search.cheapest_walk.Goals as goal
 
--- what is said of the entry that was taken
-taken_of : (found : Option HeapEntry) (first : HeapEntry) (old new : List HeapEntry) → found ≡ Some first → IfSome found (λ e. IsPermutation old (e ∷ new)) → IsPermutation old (first ∷ new)
-taken_of found first old new is held = subst (λ (f : Option HeapEntry). IfSome f (λ e. IsPermutation old (e ∷ new))) is held
-
-least_of : (found : Option HeapEntry) (first : HeapEntry) (old : List HeapEntry) → found ≡ Some first → IfSome found (λ e. All (λ (other : HeapEntry). e.key ≤ other.key) old)
-    → All (λ (other : HeapEntry). first.key ≤ other.key) old
-least_of found first old is held = subst (λ (f : Option HeapEntry). IfSome f (λ e. All (λ (other : HeapEntry). e.key ≤ other.key) old)) is held
-
-last_of : (found : Option HeapEntry) (first : HeapEntry) (last : ℕ) → found ≡ Some first → IfSome found (λ e. last ≡ e.key) → last ≡ first.key
-last_of found first last is held = subst (λ (f : Option HeapEntry). IfSome f (λ e. last ≡ e.key)) is held
-
 pub loop-ends-init : goal.loop-ends-init
-loop-ends-init g c =
-    between-begun _ _ _ _ c.args.from c.args.to _ _ c.estimate.result _ c.requires.there c.in_ok-search.ensures.begun c.estimate.ensures c.in_ok-search.ensures.waiting
-    c.in_ok-search.ensures.closed
+loop-ends-init g c = record {
+  between = between-begun _ _ _ _ c.args.from _ _ c.estimate.result _ c.requires.there c.in_ok-search.ensures.begun c.estimate.ensures c.in_ok-search.ensures.waiting
+      c.in_ok-search.ensures.closed;
+  goal = c.in_ok-search.ensures.begun.unclosed c.args.to;
+}
 
 pub loop-ends-smaller-then-visit-ne0 : goal.loop-ends-smaller-then-visit-ne0
 loop-ends-smaller-then-visit-ne0 g c =
-    work-dropped _ _ _ _ c.requires.searchable c.args.from c.args.to _ _ _ c.loop-ends.invariant c.in-Some.first.key c.in-Some.first.vertex c.pop.new.self.entries
+    work-dropped _ _ _ _ c.requires.searchable c.args.from _ _ _ c.loop-ends.invariant.between c.in-Some.first.key c.in-Some.first.vertex c.pop.new.self.entries
     (taken_of _ _ _ _ c.in-Some.is c.in_ok-first.ensures.taken)
 
 pub loop-ends-preserved-then-visit-ne0 : goal.loop-ends-preserved-then-visit-ne0
 loop-ends-preserved-then-visit-ne0 g c =
     let rank = ap (λ (u : Visit). u.rank) c.get-visit.ensures in
     let is_closed : IsClosed (visit_at c.loop-ends.search.visits c.in-Some.first.vertex) = omega (arith, rank, c.if-visit-ne0.true) in
-    between-dropped _ _ _ _ c.requires.searchable c.args.from c.args.to _ _ _ c.loop-ends.invariant c.in-Some.first.key c.in-Some.first.vertex _ (taken_of _ _ _ _ c.in-Some.is c.in_ok-first.ensures.taken) is_closed
+    record { between = between-dropped _ _ _ _ c.requires.searchable c.args.from _ _ _ c.loop-ends.invariant.between c.in-Some.first.key c.in-Some.first.vertex _ (taken_of _ _ _ _ c.in-Some.is c.in_ok-first.ensures.taken) is_closed; goal = c.loop-ends.invariant.goal }
 
 pub close-requires : goal.close-requires
 close-requires g c =
-    let fewer = closed-fewer _ _ _ _ c.requires.searchable c.args.from c.args.to _ _ _ c.loop-ends.invariant c.in-Some.first.key c.in-Some.first.vertex _ (taken_of _ _ _ _ c.in-Some.is c.in_ok-first.ensures.taken)
+    let fewer = closed-fewer _ _ _ _ c.requires.searchable c.args.from _ _ _ c.loop-ends.invariant.between c.in-Some.first.key c.in-Some.first.vertex _ (taken_of _ _ _ _ c.in-Some.is c.in_ok-first.ensures.taken)
     (least_of _ _ _ c.in-Some.is c.in_ok-first.ensures.least) (sym (ap (λ (u : Visit). u.rank) c.get-visit.ensures) ∙ c.if-visit-ne0.false) in
     omega (arith, fewer, c.requires.searchable.few)
 
 pub walk_to-requires-clause-ranked : goal.walk_to-requires-clause-ranked
 walk_to-requires-clause-ranked g c =
     ranked-tree _ _ _
-    (turn-tree _ _ _ _ c.requires.searchable c.args.from c.args.to _ _ _ c.loop-ends.invariant c.in-Some.first.key c.in-Some.first.vertex _ (taken_of _ _ _ _ c.in-Some.is c.in_ok-first.ensures.taken) (least_of _ _ _ c.in-Some.is c.in_ok-first.ensures.least)
+    (turn-tree _ _ _ _ c.requires.searchable c.args.from _ _ _ c.loop-ends.invariant.between c.in-Some.first.key c.in-Some.first.vertex _ (taken_of _ _ _ _ c.in-Some.is c.in_ok-first.ensures.taken) (least_of _ _ _ c.in-Some.is c.in_ok-first.ensures.least)
     (sym (ap (λ (u : Visit). u.rank) c.get-visit.ensures) ∙ c.if-visit-ne0.false) _ _ c.in_ok-close.ensures.written c.in_ok-close.ensures.closed)
 
 pub returns-then-eq-clause-found : goal.returns-then-eq-clause-found
 returns-then-eq-clause-found g c =
     let unclosed = sym (ap (λ (u : Visit). u.rank) c.get-visit.ensures) ∙ c.if-visit-ne0.false in
-    (cheapest _ _ _ _ c.requires.searchable c.args.from c.args.to _ _ _ c.loop-ends.invariant c.in-Some.first.key c.in-Some.first.vertex _ (taken_of _ _ _ _ c.in-Some.is c.in_ok-first.ensures.taken) (least_of _ _ _ c.in-Some.is c.in_ok-first.ensures.least)
-    unclosed (same_if _ _ c.if-eq.ensures) _ c.in_ok-close.ensures.written c.in_ok-walk_to.field-0 (c.in_ok-walk_to.ensures.walk (g.G.Graph.arcs c.args.graph.now)
-    (turn-tree _ _ _ _ c.requires.searchable c.args.from c.args.to _ _ _ c.loop-ends.invariant c.in-Some.first.key c.in-Some.first.vertex _ (taken_of _ _ _ _ c.in-Some.is c.in_ok-first.ensures.taken) (least_of _ _ _ c.in-Some.is c.in_ok-first.ensures.least)
+    (cheapest _ _ _ _ c.requires.searchable c.args.from _ _ _ c.loop-ends.invariant.between c.in-Some.first.key c.in-Some.first.vertex _ (taken_of _ _ _ _ c.in-Some.is c.in_ok-first.ensures.taken) (least_of _ _ _ c.in-Some.is c.in_ok-first.ensures.least)
+    unclosed c.args.to (same_if _ _ c.if-eq.ensures) _ c.in_ok-close.ensures.written c.in_ok-walk_to.field-0 (c.in_ok-walk_to.ensures.walk (g.G.Graph.arcs c.args.graph.now)
+    (turn-tree _ _ _ _ c.requires.searchable c.args.from _ _ _ c.loop-ends.invariant.between c.in-Some.first.key c.in-Some.first.vertex _ (taken_of _ _ _ _ c.in-Some.is c.in_ok-first.ensures.taken) (least_of _ _ _ c.in-Some.is c.in_ok-first.ensures.least)
     unclosed _ _ c.in_ok-close.ensures.written c.in_ok-close.ensures.closed))).0
 
 pub returns-then-eq-clause-few : goal.returns-then-eq-clause-few
 returns-then-eq-clause-few g c =
     let unclosed = sym (ap (λ (u : Visit). u.rank) c.get-visit.ensures) ∙ c.if-visit-ne0.false in
-    (cheapest _ _ _ _ c.requires.searchable c.args.from c.args.to _ _ _ c.loop-ends.invariant c.in-Some.first.key c.in-Some.first.vertex _ (taken_of _ _ _ _ c.in-Some.is c.in_ok-first.ensures.taken) (least_of _ _ _ c.in-Some.is c.in_ok-first.ensures.least)
-    unclosed (same_if _ _ c.if-eq.ensures) _ c.in_ok-close.ensures.written c.in_ok-walk_to.field-0 (c.in_ok-walk_to.ensures.walk (g.G.Graph.arcs c.args.graph.now)
-    (turn-tree _ _ _ _ c.requires.searchable c.args.from c.args.to _ _ _ c.loop-ends.invariant c.in-Some.first.key c.in-Some.first.vertex _ (taken_of _ _ _ _ c.in-Some.is c.in_ok-first.ensures.taken) (least_of _ _ _ c.in-Some.is c.in_ok-first.ensures.least)
+    (cheapest _ _ _ _ c.requires.searchable c.args.from _ _ _ c.loop-ends.invariant.between c.in-Some.first.key c.in-Some.first.vertex _ (taken_of _ _ _ _ c.in-Some.is c.in_ok-first.ensures.taken) (least_of _ _ _ c.in-Some.is c.in_ok-first.ensures.least)
+    unclosed c.args.to (same_if _ _ c.if-eq.ensures) _ c.in_ok-close.ensures.written c.in_ok-walk_to.field-0 (c.in_ok-walk_to.ensures.walk (g.G.Graph.arcs c.args.graph.now)
+    (turn-tree _ _ _ _ c.requires.searchable c.args.from _ _ _ c.loop-ends.invariant.between c.in-Some.first.key c.in-Some.first.vertex _ (taken_of _ _ _ _ c.in-Some.is c.in_ok-first.ensures.taken) (least_of _ _ _ c.in-Some.is c.in_ok-first.ensures.least)
     unclosed _ _ c.in_ok-close.ensures.written c.in_ok-close.ensures.closed))).1
 
 pub returns-then-eq-clause-short : goal.returns-then-eq-clause-short
 returns-then-eq-clause-short g c =
     let unclosed = sym (ap (λ (u : Visit). u.rank) c.get-visit.ensures) ∙ c.if-visit-ne0.false in
-    let few = closed-fewer _ _ _ _ c.requires.searchable c.args.from c.args.to _ _ _ c.loop-ends.invariant c.in-Some.first.key c.in-Some.first.vertex _ (taken_of _ _ _ _ c.in-Some.is c.in_ok-first.ensures.taken)
+    let few = closed-fewer _ _ _ _ c.requires.searchable c.args.from _ _ _ c.loop-ends.invariant.between c.in-Some.first.key c.in-Some.first.vertex _ (taken_of _ _ _ _ c.in-Some.is c.in_ok-first.ensures.taken)
     (least_of _ _ _ c.in-Some.is c.in_ok-first.ensures.least) unclosed in
     let rank = ap (λ (v : Vertex). (visit_at c.close.new.self.visits v).rank) (sym (same_if _ _ c.if-eq.ensures)) ∙ ap (λ (u : Visit). u.rank) c.in_ok-close.ensures.written.here in
     omega (arith, few, rank, c.in_ok-walk_to.ensures.short)
 
 pub relax-requires-clause-there : goal.relax-requires-clause-there
 relax-requires-clause-there g c =
-    vertex-member _ _ _ _ c.requires.searchable c.args.from c.args.to _ _ _ c.loop-ends.invariant c.in-Some.first.key c.in-Some.first.vertex _ (taken_of _ _ _ _ c.in-Some.is c.in_ok-first.ensures.taken) (least_of _ _ _ c.in-Some.is c.in_ok-first.ensures.least)
+    vertex-member _ _ _ _ c.requires.searchable c.args.from _ _ _ c.loop-ends.invariant.between c.in-Some.first.key c.in-Some.first.vertex _ (taken_of _ _ _ _ c.in-Some.is c.in_ok-first.ensures.taken) (least_of _ _ _ c.in-Some.is c.in_ok-first.ensures.least)
     (sym (ap (λ (u : Visit). u.rank) c.get-visit.ensures) ∙ c.if-visit-ne0.false)
 
 pub relax-requires-clause-cost : goal.relax-requires-clause-cost
@@ -87,7 +75,7 @@ relax-requires-clause-cost g c =
 
 pub relax-requires-clause-last : goal.relax-requires-clause-last
 relax-requires-clause-last g c =
-    let key = vertex-key _ _ _ _ c.requires.searchable c.args.from c.args.to _ _ _ c.loop-ends.invariant c.in-Some.first.key c.in-Some.first.vertex _
+    let key = vertex-key _ _ _ _ c.requires.searchable c.args.from _ _ _ c.loop-ends.invariant.between c.in-Some.first.key c.in-Some.first.vertex _
     (taken_of _ _ _ _ c.in-Some.is c.in_ok-first.ensures.taken) (least_of _ _ _ c.in-Some.is c.in_ok-first.ensures.least)
     (sym (ap (λ (u : Visit). u.rank) c.get-visit.ensures) ∙ c.if-visit-ne0.false) in
     let last = last_of _ _ _ c.in-Some.is c.in_ok-first.ensures.last in
@@ -97,7 +85,7 @@ relax-requires-clause-last g c =
 
 pub relax-requires-clause-few : goal.relax-requires-clause-few
 relax-requires-clause-few g c =
-    turn-few _ _ _ _ c.requires.searchable c.args.from c.args.to _ _ _ c.loop-ends.invariant c.in-Some.first.key c.in-Some.first.vertex _ (taken_of _ _ _ _ c.in-Some.is c.in_ok-first.ensures.taken) (least_of _ _ _ c.in-Some.is c.in_ok-first.ensures.least)
+    turn-few _ _ _ _ c.requires.searchable c.args.from _ _ _ c.loop-ends.invariant.between c.in-Some.first.key c.in-Some.first.vertex _ (taken_of _ _ _ _ c.in-Some.is c.in_ok-first.ensures.taken) (least_of _ _ _ c.in-Some.is c.in_ok-first.ensures.least)
     (sym (ap (λ (u : Visit). u.rank) c.get-visit.ensures) ∙ c.if-visit-ne0.false) _ _ c.in_ok-close.ensures.written c.in_ok-close.ensures.closed
 
 pub relax-requires-clause-known : goal.relax-requires-clause-known
@@ -105,17 +93,17 @@ relax-requires-clause-known g c =
     subst
     (λ (waiting : Queue). IsKnown (g.G.Graph.vertices c.args.graph.now) (g.G.Graph.estimates c.args.graph.now) (visit_at c.close.new.self.visits) waiting.entries
     (c.close.new.self.closed * g.G.Graph.heaviest c.args.graph.now) c.close.new.self.closed) (sym c.in_ok-close.ensures.waiting)
-    (turn-known _ _ _ _ c.requires.searchable c.args.from c.args.to _ _ _ c.loop-ends.invariant c.in-Some.first.key c.in-Some.first.vertex _ (taken_of _ _ _ _ c.in-Some.is c.in_ok-first.ensures.taken) (least_of _ _ _ c.in-Some.is c.in_ok-first.ensures.least)
+    (turn-known _ _ _ _ c.requires.searchable c.args.from _ _ _ c.loop-ends.invariant.between c.in-Some.first.key c.in-Some.first.vertex _ (taken_of _ _ _ _ c.in-Some.is c.in_ok-first.ensures.taken) (least_of _ _ _ c.in-Some.is c.in_ok-first.ensures.least)
     (sym (ap (λ (u : Visit). u.rank) c.get-visit.ensures) ∙ c.if-visit-ne0.false) _ _ c.in_ok-close.ensures.written c.in_ok-close.ensures.closed)
 
 pub relax-requires-clause-closing : goal.relax-requires-clause-closing
 relax-requires-clause-closing g c =
-    turn-closing _ _ _ _ c.requires.searchable c.args.from c.args.to _ _ _ c.loop-ends.invariant c.in-Some.first.key c.in-Some.first.vertex _ (taken_of _ _ _ _ c.in-Some.is c.in_ok-first.ensures.taken) (least_of _ _ _ c.in-Some.is c.in_ok-first.ensures.least)
+    turn-closing _ _ _ _ c.requires.searchable c.args.from _ _ _ c.loop-ends.invariant.between c.in-Some.first.key c.in-Some.first.vertex _ (taken_of _ _ _ _ c.in-Some.is c.in_ok-first.ensures.taken) (least_of _ _ _ c.in-Some.is c.in_ok-first.ensures.least)
     (sym (ap (λ (u : Visit). u.rank) c.get-visit.ensures) ∙ c.if-visit-ne0.false) _ _ c.in_ok-close.ensures.written c.in_ok-close.ensures.closed
 
 pub relax-requires-clause-relaxing : goal.relax-requires-clause-relaxing
 relax-requires-clause-relaxing g c =
-    turn-relaxing _ _ _ _ c.requires.searchable c.args.from c.args.to _ _ _ c.loop-ends.invariant c.in-Some.first.key c.in-Some.first.vertex _ (taken_of _ _ _ _ c.in-Some.is c.in_ok-first.ensures.taken) (least_of _ _ _ c.in-Some.is c.in_ok-first.ensures.least)
+    turn-relaxing _ _ _ _ c.requires.searchable c.args.from _ _ _ c.loop-ends.invariant.between c.in-Some.first.key c.in-Some.first.vertex _ (taken_of _ _ _ _ c.in-Some.is c.in_ok-first.ensures.taken) (least_of _ _ _ c.in-Some.is c.in_ok-first.ensures.least)
     (sym (ap (λ (u : Visit). u.rank) c.get-visit.ensures) ∙ c.if-visit-ne0.false) _ _ c.in_ok-close.ensures.written c.in_ok-close.ensures.closed
 
 pub loop-ends-smaller : goal.loop-ends-smaller
@@ -124,26 +112,29 @@ loop-ends-smaller g c =
     ap (λ (waiting : Queue). length waiting.entries) c.in_ok-close.ensures.waiting in
     let more : length c.relax.new.self.waiting.entries ≤ length c.close.new.self.waiting.entries + length (g.G.Graph.arcs c.args.graph.now c.in-Some.first.vertex) =
     c.in_ok-relax.ensures.more in
-    work-turned _ _ _ _ c.requires.searchable c.args.from c.args.to _ _ _ c.loop-ends.invariant c.in-Some.first.key c.in-Some.first.vertex _ (taken_of _ _ _ _ c.in-Some.is c.in_ok-first.ensures.taken) (least_of _ _ _ c.in-Some.is c.in_ok-first.ensures.least)
+    work-turned _ _ _ _ c.requires.searchable c.args.from _ _ _ c.loop-ends.invariant.between c.in-Some.first.key c.in-Some.first.vertex _ (taken_of _ _ _ _ c.in-Some.is c.in_ok-first.ensures.taken) (least_of _ _ _ c.in-Some.is c.in_ok-first.ensures.least)
     (sym (ap (λ (u : Visit). u.rank) c.get-visit.ensures) ∙ c.if-visit-ne0.false) _ _ c.in_ok-close.ensures.written c.in_ok-close.ensures.closed _ _ c.in_ok-relax.ensures.ranks
     (omega (arith, more, rest))
 
 pub loop-ends-preserved : goal.loop-ends-preserved
-loop-ends-preserved g c =
-    subst
-    (λ (n : ℕ). IsBetween (g.G.Graph.vertices c.args.graph.now) (g.G.Graph.arcs c.args.graph.now) (g.G.Graph.estimates c.args.graph.now) (g.G.Graph.heaviest c.args.graph.now) c.args.from
-    c.args.to (visit_at c.relax.new.self.visits) c.relax.new.self.waiting.entries n) (sym c.relax.ensures.closed)
-    (between-turned _ _ _ _ c.requires.searchable c.args.from c.args.to _ _ _ c.loop-ends.invariant c.in-Some.first.key c.in-Some.first.vertex _ (taken_of _ _ _ _ c.in-Some.is c.in_ok-first.ensures.taken) (least_of _ _ _ c.in-Some.is c.in_ok-first.ensures.least)
-    (sym (ap (λ (u : Visit). u.rank) c.get-visit.ensures) ∙ c.if-visit-ne0.false) _ _ c.in_ok-close.ensures.written c.in_ok-close.ensures.closed _ _ c.in_ok-relax.ensures.ranks
-    (apart_if_not _ _ c.if-eq.ensures)
-    (c.in_ok-relax.ensures.tree c.args.from
-    (turn-tree _ _ _ _ c.requires.searchable c.args.from c.args.to _ _ _ c.loop-ends.invariant c.in-Some.first.key c.in-Some.first.vertex _ (taken_of _ _ _ _ c.in-Some.is c.in_ok-first.ensures.taken) (least_of _ _ _ c.in-Some.is c.in_ok-first.ensures.least)
-    (sym (ap (λ (u : Visit). u.rank) c.get-visit.ensures) ∙ c.if-visit-ne0.false) _ _ c.in_ok-close.ensures.written c.in_ok-close.ensures.closed))
-    c.in_ok-relax.ensures.known c.in_ok-relax.ensures.relaxed)
+loop-ends-preserved g c = record {
+  between = subst
+      (λ (n : ℕ). IsBetween (g.G.Graph.vertices c.args.graph.now) (g.G.Graph.arcs c.args.graph.now) (g.G.Graph.estimates c.args.graph.now) (g.G.Graph.heaviest c.args.graph.now) c.args.from
+      (visit_at c.relax.new.self.visits) c.relax.new.self.waiting.entries n) (sym c.relax.ensures.closed)
+      (between-turned _ _ _ _ c.requires.searchable c.args.from _ _ _ c.loop-ends.invariant.between c.in-Some.first.key c.in-Some.first.vertex _ (taken_of _ _ _ _ c.in-Some.is c.in_ok-first.ensures.taken) (least_of _ _ _ c.in-Some.is c.in_ok-first.ensures.least)
+      (sym (ap (λ (u : Visit). u.rank) c.get-visit.ensures) ∙ c.if-visit-ne0.false) _ _ c.in_ok-close.ensures.written c.in_ok-close.ensures.closed _ _ c.in_ok-relax.ensures.ranks
+      (c.in_ok-relax.ensures.tree c.args.from
+      (turn-tree _ _ _ _ c.requires.searchable c.args.from _ _ _ c.loop-ends.invariant.between c.in-Some.first.key c.in-Some.first.vertex _ (taken_of _ _ _ _ c.in-Some.is c.in_ok-first.ensures.taken) (least_of _ _ _ c.in-Some.is c.in_ok-first.ensures.least)
+      (sym (ap (λ (u : Visit). u.rank) c.get-visit.ensures) ∙ c.if-visit-ne0.false) _ _ c.in_ok-close.ensures.written c.in_ok-close.ensures.closed))
+      c.in_ok-relax.ensures.known c.in_ok-relax.ensures.relaxed);
+  goal = goal-turned _ _ _ _ c.requires.searchable c.args.from _ _ _ c.loop-ends.invariant.between c.in-Some.first.key c.in-Some.first.vertex _ (taken_of _ _ _ _ c.in-Some.is c.in_ok-first.ensures.taken) (least_of _ _ _ c.in-Some.is c.in_ok-first.ensures.least)
+      (sym (ap (λ (u : Visit). u.rank) c.get-visit.ensures) ∙ c.if-visit-ne0.false) _ _ c.in_ok-close.ensures.written c.in_ok-close.ensures.closed _ c.relax.new.self.waiting.entries c.in_ok-relax.ensures.ranks
+      c.args.to (apart_if_not _ _ c.if-eq.ensures) c.loop-ends.invariant.goal;
+}
 
 pub returns-clause-none : goal.returns-clause-none
 returns-clause-none g c =
-    apart _ _ _ _ c.requires.searchable c.args.from c.args.to _ _ _ c.loop-ends.invariant (none_left c.in_ok-first.field-0 _ c.in_default.not-Some c.in_ok-first.ensures.none)
+    apart _ _ _ _ c.requires.searchable c.args.from _ _ _ c.loop-ends.invariant.between c.args.to c.loop-ends.invariant.goal (none_left c.in_ok-first.field-0 _ c.in_default.not-Some c.in_ok-first.ensures.none)
 
 pub returns-in_err-search-clause-found : goal.returns-in_err-search-clause-found
 returns-in_err-search-clause-found g c = IfOk-from_err c.from_residual.result _ c.from_residual.ensures.0

@@ -4,11 +4,11 @@ use Rattle.std.proofs.lemmas.Int.{ints}
 use Rattle.nav_ground.proofs.touch.widened.Goals as goal
 
 -- a column in or near the largest field, and so many columns, as they are in 32 bits
-fewer : (x : ℤ) (margin : ℕ) → pos 0 ≤ℤ (x +ℤ pos 1024) → x ≤ℤ pos 3071 → margin ≤ 15
+fewer : (x : ℤ) (margin : ℕ) → pos 0 ≤ℤ (x +ℤ pos 4096) → x ≤ℤ pos 8191 → margin ≤ 15
     → to_z w32 (of_z w32 (to_z w32 (of_z w32 x) -ℤ to_z w32 margin)) ≡ x -ℤ pos margin
 fewer x margin low high small = omega (arith, ints)
 
-more : (x : ℤ) (margin : ℕ) → pos 0 ≤ℤ (x +ℤ pos 1024) → x ≤ℤ pos 3071 → margin ≤ 15
+more : (x : ℤ) (margin : ℕ) → pos 0 ≤ℤ (x +ℤ pos 4096) → x ≤ℤ pos 8191 → margin ≤ 15
     → to_z w32 (of_z w32 (to_z w32 (of_z w32 x) +ℤ to_z w32 margin)) ≡ x +ℤ pos margin
 more x margin low high small = omega (arith, ints)
 

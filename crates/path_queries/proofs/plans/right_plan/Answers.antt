@@ -1,7 +1,10 @@
-use Rattle.std.proofs.Common.{List, refl, sym, subst}
+use Rattle.std.proofs.Common.{◌<◌, List, length, refl, sym, subst}
 use Rattle.mesh_types.specs.declared.links.Link.{Link}
-use Rattle.mesh_types.specs.Corridors.{WalksTo}
-use Rattle.path_queries.proofs.WayParts.{pulled}
+use Rattle.mesh_types.specs.Chains.{IsChain}
+use Rattle.mesh_types.specs.Right.{portals_of}
+use Rattle.mesh_types.specs.Taut.{IsTaut}
+use Rattle.funnel_path.specs.Coordinates.{HasChainCoordinates}
+use Rattle.path_queries.proofs.PlanParts.{limited-of, portals-few, way-of, way-pulled}
 use Rattle.path_queries.proofs.plans.right_plan.Goals as goal
 
 pub returns-in_default-clause-right : goal.returns-in_default-clause-right
@@ -17,19 +20,37 @@ returns-in_default-locate-clause-right c = record {
 pub turns-requires-clause-chain : goal.turns-requires-clause-chain
 turns-requires-clause-chain c =
     let q = c.args.query.now in
-    let found = rw c.in-Some-2.is at c.in_ok-corridor.ensures.found in
-    let walks = subst (λ (links : List Link). WalksTo c.args.mesh.now c.in-Some.first links c.in-Some-locate.last)
-    (sym c.as_slice.ensures) found.allowed.walks in
-    (pulled c.args.mesh.now q.from q.from_y q.goal q.goal_y c.in-Some.first c.in-Some-locate.last c.as_slice.result.now c.requires.sound
-    c.requires.query.from
-    c.requires.query.goal c.in-Some.ensures.located c.in-Some-locate.ensures.located walks).chain
+    let found = rw c.in-Found.is at c.in_ok-corridor.ensures in
+    subst (λ (links : List Link). IsChain q.from (portals_of links) q.goal) (sym c.as_slice.ensures)
+    (way-pulled c.args.mesh.now q c.in-Some.first c.in-Some-locate.last c.in-Some.ensures.located c.in-Some-locate.ensures.located _
+    c.in-Found.corridor c.requires.sound c.requires.query found).chain
+
+pub turns-requires-clause-few : goal.turns-requires-clause-few
+turns-requires-clause-few c =
+    let found = rw c.in-Found.is at c.in_ok-corridor.ensures in
+    subst (λ (links : List Link). length (portals_of links) < 4294967295) (sym c.as_slice.ensures)
+    (portals-few c.args.mesh.now c.args.query.now c.in-Some.first c.in-Some-locate.last c.in-Some.ensures.located c.in-Some-locate.ensures.located _
+    c.in-Found.corridor found)
 
 pub turns-requires-clause-coordinates : goal.turns-requires-clause-coordinates
 turns-requires-clause-coordinates c =
     let q = c.args.query.now in
-    let found = rw c.in-Some-2.is at c.in_ok-corridor.ensures.found in
-    let walks = subst (λ (links : List Link). WalksTo c.args.mesh.now c.in-Some.first links c.in-Some-locate.last)
-    (sym c.as_slice.ensures) found.allowed.walks in
-    (pulled c.args.mesh.now q.from q.from_y q.goal q.goal_y c.in-Some.first c.in-Some-locate.last c.as_slice.result.now c.requires.sound
-    c.requires.query.from
-    c.requires.query.goal c.in-Some.ensures.located c.in-Some-locate.ensures.located walks).coordinates
+    let found = rw c.in-Found.is at c.in_ok-corridor.ensures in
+    subst (λ (links : List Link). HasChainCoordinates q.from (portals_of links) q.goal) (sym c.as_slice.ensures)
+    (way-pulled c.args.mesh.now q c.in-Some.first c.in-Some-locate.last c.in-Some.ensures.located c.in-Some-locate.ensures.located _
+    c.in-Found.corridor c.requires.sound c.requires.query found).coordinates
+
+pub returns-in_ok-turns-in-Found-clause-right : goal.returns-in_ok-turns-in-Found-clause-right
+returns-in_ok-turns-in-Found-clause-right c =
+    let q = c.args.query.now in
+    let found = rw c.in-Found.is at c.in_ok-corridor.ensures in
+    way-of c.args.mesh.now q c.in-Some.first c.in-Some-locate.last c.in-Some.ensures.located c.in-Some-locate.ensures.located _
+    c.in-Found.corridor c.in_ok-turns-in-Found.turns found
+    (subst (λ (links : List Link). IsTaut q.from (portals_of links) q.goal c.in_ok-turns-in-Found.turns) c.as_slice.ensures
+    c.in_ok-turns-in-Found.ensures)
+
+pub returns-in-Limit-clause-right : goal.returns-in-Limit-clause-right
+returns-in-Limit-clause-right c =
+    let found = rw c.in-Limit.is at c.in_ok-corridor.ensures in
+    limited-of c.args.mesh.now c.args.query.now c.in-Some.first c.in-Some-locate.last c.in-Some.ensures.located c.in-Some-locate.ensures.located
+    c.in-Limit.seen found

@@ -1,0 +1,5 @@
+mod LeadLaws
+mod NearestLaws
+mod PathParts
+mod CostSums
+mod TileReach

@@ -1,0 +1,8 @@
+use Rattle.std.proofs.Common.{◌≡◌, ℕ, ◌<◌, get_or}
+use Rattle.mesh_types.specs.declared.links.Link.{Link}
+use Rattle.path_queries.specs.Filters.{Enters}
+use Rattle.kept_paths.proofs.leads.first_on.Given as goal
+
+-- none of the links so far does
+abbrev pub invariant-loop-link : goal.invariant-loop-link
+invariant-loop-link l = (k : ℕ) (d : Link) → k < l.link-index → ((get_or l.links k d).portal ≡ l.portal) × Enters l.mesh l.areas (get_or l.links k d) → ⊥

@@ -1,0 +1,2 @@
+pub mod KeptPaths
+pub mod Beginnings

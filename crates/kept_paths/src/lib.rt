@@ -1,0 +1,16 @@
+//! Paths that are kept while the mesh changes: whether one still leads on.
+//!
+//! `check` takes a path that was found in one mesh over into another one: from the polygon in which it begins now it takes the links
+//! through the portals of the kept ones, as far as they lead on through open areas, and tells up to which kept link they do. Where all do
+//! and the goal is held, it lays a taut line anew. Nothing is searched for. Tiles number their polygons anew at each build, so that a link
+//! is known by its portal. After Detour's `dtPathCorridor`.
+//!
+//! Points are in sixteenths of a cell, heights in the unit of the floors.
+#![tactic(auto)]
+
+mod beginnings;
+mod checks;
+mod leads;
+mod weights;
+
+pub use checks::{CheckAnswer, KeptPath, check};

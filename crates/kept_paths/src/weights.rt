@@ -1,0 +1,71 @@
+//! What links cost through a filter.
+
+ghost use Rattle.std.specs.Prelude.{◌≡◌, ◌<◌, ◌*◌, All, length, max, slice_index};
+ghost use Rattle.nav_base.specs.Distance.{distance_of};
+ghost use Rattle.nav_base.specs.Point.{IsInField};
+ghost use Rattle.nav_ground.specs.Limits.{IsArea, IsSetting};
+ghost use Rattle.mesh_types.specs.Corridors.{IsLinkOf, cost_of, weight_of};
+ghost use Rattle.mesh_types.specs.Soundness.{IsSound};
+ghost use Rattle.corridor_search.specs.Estimates.{IsBox, middle_of};
+ghost use Rattle.path_queries.specs.Filters.{AreCosts, IsFilter, priced, with_costs};
+
+use corridor_search::{distance, extent_at, middle};
+use mesh_types::{Extent, Link, Mesh};
+use nav_base::Point;
+use nav_ground::AREAS;
+use path_queries::Filter;
+
+/// What links cost together, as a filter prices the mesh.
+pub(crate) fn cost(mesh: &Mesh, filter: &Filter, links: &[Link]) -> u64
+    requires sound { IsSound mesh.now }
+    requires setting { IsSetting mesh.now.setting }
+    requires filter { IsFilter filter.now }
+    requires links { All (IsLinkOf mesh.now) links.now }
+    requires few { length links.now < 4294967295 }
+    ensures { result ≡ cost_of (priced mesh.now filter.now) links.now }
+{
+    let costs = filter.costs.unwrap_or(mesh.setting.costs);
+    cost_at(mesh, &costs, links)
+}
+
+/// What they cost together at given costs of areas.
+fn cost_at(mesh: &Mesh, costs: &[u32; AREAS], links: &[Link]) -> u64
+    requires sound { IsSound mesh.now }
+    requires setting { IsSetting mesh.now.setting }
+    requires costs { AreCosts costs.now }
+    requires links { All (IsLinkOf mesh.now) links.now }
+    requires few { length links.now < 4294967295 }
+    ensures { result ≡ cost_of (with_costs costs.now mesh.now) links.now }
+{
+    let mut cost = 0;
+    for link in links {
+        cost += weight(mesh, costs, link);
+    }
+    cost
+}
+
+/// What a link of a mesh costs: the distance of the middles of its two polygons, in sixteenths of a cell and rounded up, at least 1, times
+/// the cost of the area that it enters.
+fn weight(mesh: &Mesh, costs: &[u32; AREAS], link: &Link) -> u64
+    requires sound { IsSound mesh.now }
+    requires setting { IsSetting mesh.now.setting }
+    requires costs { AreCosts costs.now }
+    requires link { IsLinkOf mesh.now link.now }
+    ensures value { result ≡ weight_of (with_costs costs.now mesh.now) link.now }
+{
+    let from = middle(extent_at(mesh, link.from));
+    let entered = extent_at(mesh, link.to);
+    step_cost(costs, from, entered)
+}
+
+/// What a step costs from a point into a polygon with an extent.
+fn step_cost(costs: &[u32; AREAS], from: Point, to: Extent) -> u64
+    requires costs { AreCosts costs.now }
+    requires from { IsInField from }
+    requires to { IsBox to }
+    requires area { IsArea to.area }
+    ensures { result ≡ max 1 (distance_of from (middle_of to)) * slice_index costs.now to.area }
+{
+    let length = distance(from, middle(to)).max(1);
+    u64::from(length) * u64::from(costs[to.area as usize])
+}

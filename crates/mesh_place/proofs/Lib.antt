@@ -1,0 +1,9 @@
+mod Spans
+mod Nearer
+mod Rows
+mod FloorPlaces
+mod Squares
+mod SearchLaws
+mod ScanLaws
+pub mod OneNearest
+mod TileScan

@@ -1,0 +1,17 @@
+-- Columns: how far a coordinate lies outside a column, and the columns under it.
+use Rattle.std.specs.Prelude.{ℕ, ◌+◌, ◌*◌, ◌-◌, ◌/◌, ℤ, pos, ◌+ℤ◌, ◌-ℤ◌, unsigned_abs}
+use Rattle.std.specs.Int.{int_max}
+use Rattle.mesh_types.specs.Places.{outside}
+use Rattle.mesh_place.specs.declared.columns.ColumnRange.{ColumnRange}
+
+-- how far a coordinate, in sixteenths, lies outside a column
+abbrev pub column_out : ℕ → ℤ → ℕ
+column_out place n = outside (pos (16 * place)) (pos (16 * (place + 1))) n
+
+-- the columns whose closed squares reach a coordinate
+abbrev pub span_under : ℤ → ColumnRange
+span_under n = let m = unsigned_abs (int_max n (pos 0)) in record { first = (m - 1) / 16; last = m / 16 }
+
+-- the columns within a reach of a coordinate
+abbrev pub columns_around : ℤ → ℕ → ColumnRange
+columns_around n reach = record { first = (span_under (n -ℤ pos reach)).first; last = (span_under (n +ℤ pos reach)).last }

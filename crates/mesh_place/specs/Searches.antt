@@ -1,0 +1,150 @@
+-- Searches: what a search for the nearest place has found.
+use Rattle.std.specs.Prelude.{◌≡◌, ◌≢◌, ℕ, ◌+◌, ◌-◌, ◌*◌, ◌<◌, ◌≤◌, pos, ◌≤ℤ◌, ◌<ℤ◌, min, Bool, true, IsTrue, Option, Some, None, slice_get}
+use Rattle.std.specs.Ordering.{is_lt}
+use Rattle.std.specs.declared.cmp.Ordering.TheVariants.{Less}
+use Rattle.nav_base.specs.declared.point.Point.{Point}
+use Rattle.nav_base.specs.Point.{HasCoordinates}
+use Rattle.mesh_types.specs.declared.links.PolyRef.{PolyRef}
+use Rattle.mesh_types.specs.declared.mesh.Mesh.{Mesh}
+use Rattle.mesh_types.specs.declared.storeys.FloorRow.{FloorRow}
+use Rattle.mesh_types.specs.declared.storeys.Storey.{Storey}
+use Rattle.mesh_types.specs.declared.storeys.MeshPlace.{MeshPlace}
+use Rattle.mesh_types.specs.FitTiles.{IsPolygon}
+use Rattle.mesh_types.specs.Places.{Stands, column_gap, storey_at}
+use Rattle.mesh_types.specs.Storeys.{HasFloor, IsStorey}
+use Rattle.mesh_types.specs.WholeMesh.{poly_at}
+use Rattle.mesh_place.specs.declared.columns.ColumnRange.{ColumnRange}
+use Rattle.mesh_place.specs.declared.near.Near.{Near}
+use Rattle.mesh_place.specs.declared.scan.NearCell.{NearCell}
+use Rattle.mesh_types.specs.declared.extent.Extent.{Extent}
+use Rattle.mesh_place.specs.declared.scan.Around.{Around}
+use Rattle.mesh_place.specs.declared.scan.NearSearch.{NearSearch}
+use Rattle.mesh_place.specs.declared.scan.PolygonPart.{PolygonPart}
+use Rattle.mesh_place.specs.Columns.{columns_around}
+use Rattle.mesh_place.specs.Nearest.{CanAskNear, IsInReach, is_open, measure, place_cmp}
+
+-- what was found stands and is in reach
+abbrev pub IsFound : Mesh → Near → Option MeshPlace → Type 0
+IsFound mesh asked None = Unit {0}
+IsFound mesh asked (Some place) = Stands mesh place × IsInReach mesh asked place
+
+-- a place does not come before what was found; every place comes before nothing
+abbrev pub IsNotBefore : ℕ → Near → MeshPlace → Option MeshPlace → Type 0
+IsNotBefore climb asked other None = ⊥
+IsNotBefore climb asked other (Some place) = place_cmp climb asked other place ≢ Less
+
+-- a place comes before what was found
+abbrev pub comes_before : ℕ → Near → MeshPlace → Option MeshPlace → Bool
+comes_before climb asked other None = true
+comes_before climb asked other (Some place) = is_lt (place_cmp climb asked other place)
+
+-- what is found after some places were looked at: it stands and is in reach, what came before none comes before this one, and none of those
+-- places does that stand and are in reach
+pub record IsFoundAmong (mesh : Mesh) (asked : Near) (old new : Option MeshPlace) (among : MeshPlace → Type 0) : Type 0 where
+  pub found : IsFound mesh asked new
+  pub kept : (other : MeshPlace) → IsNotBefore mesh.setting.agent.climb asked other old
+      → IsNotBefore mesh.setting.agent.climb asked other new
+  pub all : (other : MeshPlace) → Stands mesh other → IsInReach mesh asked other → among other
+      → IsNotBefore mesh.setting.agent.climb asked other new
+
+-- a height can be measured against what is asked
+pub record IsHeightNear (asked : Near) (y : ℕ) : Type 0 where
+  pub low : asked.y ≤ y + asked.down
+  pub high : y ≤ asked.y + asked.up
+
+-- a place can be measured against what is asked
+pub record IsMeasurable (asked : Near) (place : MeshPlace) : Type 0 where
+  pub point : HasCoordinates place.point
+  pub near : IsHeightNear asked place.y
+
+-- the columns and rows within reach of what is asked
+abbrev pub around_of : Near → Around
+around_of asked = record { columns = columns_around asked.point.x asked.reach; rows = columns_around asked.point.z asked.reach }
+
+-- what is sought, with the columns and rows within its reach
+pub record IsSearch (search : NearSearch) : Type 0 where
+  pub asked : CanAskNear search.asked
+  pub around : search.around ≡ around_of search.asked
+
+-- a box of whole cells touches columns, and rows
+pub record IsAcross (box : Extent) (columns : ColumnRange) : Type 0 where
+  pub begins : box.low.x ≤ℤ pos columns.last
+  pub ends : pos columns.first ≤ℤ box.high.x
+
+pub record IsAlong (box : Extent) (rows : ColumnRange) : Type 0 where
+  pub begins : box.low.z ≤ℤ pos rows.last
+  pub ends : pos rows.first ≤ℤ box.high.z
+
+abbrev pub Touches : Extent → Around → Type 0
+Touches box around = IsAcross box around.columns × IsAlong box around.rows
+
+-- no place farther from the point is looked for: the square of the reach, and the measure of what was found if that is less
+abbrev pub limit_of : ℕ → Near → Option MeshPlace → ℕ
+limit_of climb asked None = asked.reach * asked.reach
+limit_of climb asked (Some best) = min (asked.reach * asked.reach) (measure climb asked best)
+
+-- a polygon of an open area
+pub record IsPart (mesh : Mesh) (asked : Near) (part : PolygonPart) : Type 0 where
+  pub there : poly_at mesh part.at ≡ Some part.polygon
+  pub rules : IsPolygon part.polygon
+  pub area : IsTrue (is_open asked.areas part.polygon.area)
+
+-- a row of the storey of a polygon
+pub record IsRowOf (mesh : Mesh) (at : PolyRef) (row : FloorRow) (z : ℕ) : Type 0 where
+  pub storey : Storey
+  pub home : storey_at mesh at ≡ Some storey
+  pub rules : IsStorey storey
+  pub above : storey.z0 ≤ z
+  pub is_row : slice_get storey.rows (z - storey.z0) ≡ Some row
+
+-- a cell of the storey of a polygon of an open area
+pub record IsCellOf (mesh : Mesh) (asked : Near) (cell : NearCell) : Type 0 where
+  pub there : poly_at mesh cell.at ≡ Some cell.polygon
+  pub rules : IsPolygon cell.polygon
+  pub area : IsTrue (is_open asked.areas cell.polygon.area)
+  pub storey : Storey
+  pub home : storey_at mesh cell.at ≡ Some storey
+  pub has : HasFloor storey cell.x cell.z cell.y
+  pub low : cell.y ≤ 8191
+  pub across : cell.x < 1024
+  pub along : cell.z < 1024
+
+-- a point over a cell, so many sixteenths from its corner; the place over the cell at a point
+abbrev pub point_at : NearCell → ℕ → ℕ → Point
+point_at cell k line = record { x = pos (16 * cell.x + k); z = pos (16 * cell.z + line) }
+
+abbrev pub place_over : NearCell → Point → MeshPlace
+place_over cell point = record { polygon = cell.at; point = point; y = cell.y }
+
+-- the places over a cell, those of them in the lines before one, and those of a line before a point
+pub record IsOverCell (cell : NearCell) (place : MeshPlace) : Type 0 where
+  pub polygon : place.polygon ≡ cell.at
+  pub y : place.y ≡ cell.y
+  pub over : 0 ≡ column_gap cell.x cell.z place.point
+
+pub record IsInLines (cell : NearCell) (line : ℕ) (place : MeshPlace) : Type 0 where
+  pub over : IsOverCell cell place
+  pub before : place.point.z <ℤ pos (16 * cell.z + line)
+
+pub record IsInLine (cell : NearCell) (line k : ℕ) (place : MeshPlace) : Type 0 where
+  pub over : IsOverCell cell place
+  pub on : place.point.z ≡ pos (16 * cell.z + line)
+  pub before : place.point.x <ℤ pos (16 * cell.x + k)
+
+-- the places of a polygon over the cells of a row before a column
+pub record IsInRow (row : FloorRow) (at : PolyRef) (z end : ℕ) (place : MeshPlace) : Type 0 where
+  pub polygon : place.polygon ≡ at
+  pub x : ℕ
+  pub right : row.x0 ≤ x
+  pub is_cell : slice_get row.floors (x - row.x0) ≡ Some place.y
+  pub over : 0 ≡ column_gap x z place.point
+  pub before : x < end
+
+-- and over those of the rows of a storey before one
+pub record IsInRows (storey : Storey) (at : PolyRef) (end : ℕ) (place : MeshPlace) : Type 0 where
+  pub polygon : place.polygon ≡ at
+  pub x : ℕ
+  pub z : ℕ
+  pub has : HasFloor storey x z place.y
+  pub over : 0 ≡ column_gap x z place.point
+  pub before : z < end

@@ -1,0 +1,20 @@
+//! Places on a mesh: a polygon, a point that it holds, and the floor there.
+//!
+//! The floor at a point of a polygon is that of a cell of the polygon's storey: of the cell under the point, and where the outline of the
+//! polygon strays off its cells, of the nearest cell. `height` tells the highest such floor, and `is_place` whether a place is one of the
+//! mesh, so that a place which a later build took away is not answered from another floor. Neither takes memory.
+//!
+//! Points are in sixteenths of a cell, corners of polygons and columns in whole cells, heights in the unit of the floors.
+#![tactic(auto)]
+
+mod columns;
+mod floors;
+mod heights;
+mod near;
+mod nearest_place;
+mod scan;
+
+pub use heights::{HeightAnswer, HeightAt, height, is_place};
+pub use mesh_types::MeshPlace;
+pub use near::{Near, NearAnswer};
+pub use nearest_place::nearest;

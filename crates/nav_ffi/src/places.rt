@@ -1,0 +1,53 @@
+//! Questions about places on the mesh, asked of what a view shows.
+
+ghost use Rattle.std.specs.Prelude.{◌≡◌};
+ghost use Rattle.nav_base.specs.Point.{HasCoordinates};
+ghost use Rattle.mesh_place.specs.Nearest.{CanAskNear};
+ghost use Rattle.nav_handle.specs.Answers.{EndsSo, IsAskedBy, seen_in};
+ghost use Rattle.nav_handle.specs.Statuses as status;
+ghost use Rattle.place_handle.specs.Checking.{IsPlaceCheck, check_ends, told_check};
+ghost use Rattle.place_handle.specs.Heights.{IsHeightAt, height_ends, told_height};
+ghost use Rattle.place_handle.specs.Nearing.{IsNearestTo, near_asked, near_ends, told_near};
+ghost use Rattle.place_handle.specs.Places.{place_of};
+
+use nav_handle::NavdView;
+use place_handle::{NavdNear, NavdPlace};
+use std::alloc::Global;
+
+/// The place nearest to a point and a height in the mesh that a view shows, of those that stand and are in reach.
+#[unsafe(no_mangle)]
+pub extern "C" fn navd_view_nearest(
+    alloc: Global,
+    view: &mut NavdView,
+    near: &NavdNear,
+    place: &mut NavdPlace,
+) -> u32
+    ensures asked { CanAskNear (near_asked near.now)
+        → IsAskedBy (IsNearestTo (near_asked near.now)) near_ends told_near (seen_in view.old.view) place.old place.new result }
+    ensures refused { (CanAskNear (near_asked near.now) → ⊥) → EndsSo status.out_of_range place.old place.new result }
+    ensures same { view.new.view ≡ view.old.view }
+{
+    place_handle::nearest(alloc, view, near, place)
+}
+
+/// The highest floor at the point of a place in its polygon, in the mesh that a view shows.
+#[unsafe(no_mangle)]
+pub extern "C" fn navd_view_height(alloc: Global, view: &mut NavdView, place: &mut NavdPlace) -> u32
+    ensures asked { HasCoordinates (place_of place.old).point
+        → IsAskedBy (IsHeightAt (place_of place.old)) height_ends told_height (seen_in view.old.view) place.old place.new result }
+    ensures refused { (HasCoordinates (place_of place.old).point → ⊥) → EndsSo status.out_of_range place.old place.new result }
+    ensures same { view.new.view ≡ view.old.view }
+{
+    place_handle::height(alloc, view, place)
+}
+
+/// Whether a place is one of the mesh that a view shows.
+#[unsafe(no_mangle)]
+pub extern "C" fn navd_view_is_place(alloc: Global, view: &mut NavdView, place: &NavdPlace) -> u32
+    ensures asked { HasCoordinates (place_of place.now).point
+        → IsAskedBy (IsPlaceCheck (place_of place.now)) check_ends told_check (seen_in view.old.view) place.now place.now result }
+    ensures refused { (HasCoordinates (place_of place.now).point → ⊥) → EndsSo status.out_of_range place.now place.now result }
+    ensures same { view.new.view ≡ view.old.view }
+{
+    place_handle::is_place(alloc, view, place)
+}

@@ -1,0 +1,6 @@
+pub mod Entries
+pub mod Counts
+pub mod Rows
+pub mod Keeping
+pub mod Switching
+pub mod Updating

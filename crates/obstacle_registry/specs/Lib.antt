@@ -1,0 +1,5 @@
+pub mod Registry
+pub mod Changes
+pub mod Updates
+pub mod LiveNumbers
+pub mod Representation

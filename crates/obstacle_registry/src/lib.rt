@@ -1,0 +1,22 @@
+//! The obstacles of a level by ids that stay, as Detour's tile cache keeps its obstacle references.
+//!
+//! `Registry` is a `Level` with a row for each obstacle: its id, its shape, a number of the host's, and whether it is on. An id is given once.
+//! `add`, `remove`, `enable`, `move_to` and `mark` change the rows, and make the entries of the history that this takes: a switch makes one, a
+//! move a remove and an add. What is refused says why, makes no entry and changes nothing. `update` is for a host's frame: it aims at all that
+//! was asked for once what it aimed at before is shown, builds at most so many tiles, and publishes; a move is so never shown half. `version`
+//! counts how often something new was shown.
+//!
+//! The history is not begun again here: where it may not have two entries more, what would make one is refused (`HistoryFull`).
+//!
+//! `row`: an obstacle, and why a call is refused. `live`: a level with the numbers of its alive obstacles at hand. `update`: the steps of an
+//! update. `registry`: the rows.
+#![tactic(auto)]
+
+mod live;
+mod registry;
+mod row;
+mod update;
+
+pub use registry::Registry;
+pub use row::{Refused, Registered};
+pub use update::Updated;

@@ -1,0 +1,119 @@
+//! A level with the numbers of its obstacles that are alive at hand.
+
+ghost use Rattle.std.specs.Prelude.{◌≡◌, ◌+◌, ◌≤◌, ◌<◌, ◌++◌, ◌∷◌, [], ◌==◌, false, true, length, filter, not, vec_capacity, IfOk, OnOk, OnErr};
+ghost use Rattle.std.specs.List.{list_any};
+ghost use Rattle.build_queue.specs.BookState.{IsBook};
+ghost use Rattle.nav_ground.specs.History.{history_limit};
+ghost use Rattle.nav_ground.specs.Limits.{IsShape};
+ghost use Rattle.obstacle_registry.specs.Changes.{next_number, put_up, taken_down};
+ghost use Rattle.obstacle_registry.specs.Updates.{IsPartOfUpdate, aimed_if_shown, is_showing, tiles_built, updated};
+ghost use Rattle.obstacle_registry.specs.Registry.{alive_now, has_room, is_crowded};
+
+use crate::update::{Updated, update};
+use nav_base::Steps;
+use nav_book::Level;
+use nav_ground::{HISTORY_LIMIT, Request, Shape};
+use std::alloc::{AllocError, Global};
+use std::marker::Model;
+use std::sync::ledger::Ledger;
+
+/// A level, and the numbers of its obstacles that are alive, rising. It is seen as the level.
+#[derive(Drop)]
+pub(crate) struct LiveLevel {
+    level: Level,
+    numbers: Vec<u32>,
+}
+
+impl Model for LiveLevel {
+    ghost use Rattle.build_queue.specs.BookState.{BookState};
+    ghost use Rattle.obstacle_registry.specs.LiveNumbers.{level_of, AreAtHand};
+
+    ghost Value = { BookState };
+
+    ghost view = { level_of };
+
+    ghost invariant = { AreAtHand };
+}
+
+impl LiveLevel {
+    /// A level of which no obstacle is alive, with room for as many numbers as may be.
+    pub(crate) fn new(level: Level, numbers: Vec<u32>) -> LiveLevel
+        requires rules { IsBook level }
+        requires alive { alive_now level ≡ [] }
+        requires none { numbers.items ≡ [] }
+        requires room { level.ground.setting.limit ≤ vec_capacity numbers }
+        ensures { result ≡ level }
+    {
+        LiveLevel { level, numbers }
+    }
+
+    /// Whether as many obstacles are alive as may be.
+    pub(crate) fn is_crowded(&self) -> bool
+        ensures { result ≡ is_crowded self.now }
+    {
+        self.numbers.len() == self.level.ground().setting.limit as usize
+    }
+
+    /// Whether the history may have two entries more.
+    pub(crate) fn has_room(&self) -> bool
+        ensures { result ≡ has_room self.now }
+    {
+        self.level.length() + 2 <= HISTORY_LIMIT
+    }
+
+    /// Puts a shape up, and gives the number of its entry.
+    pub(crate) fn put_up(&mut self, shape: Shape) -> u32
+        requires shape { IsShape shape }
+        requires room { length self.old.history < history_limit }
+        requires few { is_crowded self.old ≡ false }
+        ensures state { self.new ≡ put_up shape self.old }
+        ensures number { result ≡ next_number self.old }
+        ensures rules { IsBook self.new }
+    {
+        match self.level.request(0, Request::Add(shape)) {
+            Ok((number, _)) => {
+                self.numbers.push_reserved(number);
+                number
+            }
+            Err(full) => full.len,
+        }
+    }
+
+    /// Takes the obstacle of a number down that is alive.
+    pub(crate) fn take_down(&mut self, number: u32)
+        requires room { length self.old.history < history_limit }
+        requires there { list_any (λ alive. alive == number) (alive_now self.old) ≡ true }
+        ensures state { self.new ≡ taken_down number self.old }
+        ensures few { is_crowded self.new ≡ false }
+        ensures rules { IsBook self.new }
+    {
+        if let Ok(place) = self.numbers.binary_search(&number) {
+            let _ = self.numbers.remove(place);
+        }
+        let _ = self.level.request(0, Request::Remove(number));
+    }
+
+    /// Updates the level.
+    pub(crate) fn update<L: Ledger>(
+        &mut self,
+        alloc: Global,
+        most: u32,
+        steps: &mut Steps<L>,
+    ) -> Result<Updated, AllocError>
+        ensures state { OnOk result (self.new ≡ updated most self.old) }
+        ensures built { IfOk result (λ told. told.built ≡ tiles_built most (aimed_if_shown self.old)) }
+        ensures published { IfOk result (λ told. told.published ≡ is_showing most self.old) }
+        ensures refused { OnErr result (IsPartOfUpdate most self.old self.new) }
+        ensures rules { IsBook self.new }
+        ensures history { self.new.history ≡ self.old.history }
+    {
+        update(&mut self.level, alloc, most, steps)
+    }
+
+    /// The level.
+    pub(crate) fn level(&self) -> &Level
+        ensures { result.now ≡ self.now }
+    {
+        &self.level
+    }
+}

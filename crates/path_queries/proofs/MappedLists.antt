@@ -1,0 +1,21 @@
+-- What stands at a place of a mapped list.
+use Rattle.std.proofs.Common.{◌≡◌, ℕ, zero, suc, List, [], ◌∷◌, map, refl, ap}
+use Rattle.std.specs.Prelude.{slice_get, Some}
+use Rattle.std.proofs.lemmas.Option.{none-some, same_Some}
+
+pub record IsMapped (X Y : Type 0) (f : X → Y) (xs : List X) (k : ℕ) (y : Y) : Type 0 where
+  pub of : X
+  pub there : slice_get xs k ≡ Some of
+  pub is : f of ≡ y
+
+pub get-mapped : {X Y : Type 0} (f : X → Y) (xs : List X) (k : ℕ) (y : Y) → slice_get (map f xs) k ≡ Some y → IsMapped X Y f xs k y
+get-mapped f [] k y is = absurd (none-some y is)
+get-mapped f (x ∷ xs) zero y is = record { of = x; there = refl; is = same_Some (f x) y is }
+get-mapped f (x ∷ xs) (suc k) y is =
+    let rest = get-mapped f xs k y is in
+    record { of = rest.of; there = rest.there; is = rest.is }
+
+pub get-map : {X Y : Type 0} (f : X → Y) (xs : List X) (k : ℕ) (x : X) → slice_get xs k ≡ Some x → slice_get (map f xs) k ≡ Some (f x)
+get-map f [] k x is = absurd (none-some x is)
+get-map f (y ∷ xs) zero x is = ap (λ z. Some (f z)) (same_Some y x is)
+get-map f (y ∷ xs) (suc k) x is = get-map f xs k x is

@@ -1,0 +1,89 @@
+//! Searches through a filter.
+
+ghost use Rattle.std.specs.Prelude.{◌≡◌, ◌*◌, ◌⊎◌, [], map, All, Contains, IfOk};
+ghost use Rattle.nav_base.specs.Point.{IsInField};
+ghost use Rattle.nav_ground.specs.Limits.{IsSetting};
+ghost use Rattle.mesh_types.specs.declared.links.PolyRef.{PolyRef};
+ghost use Rattle.mesh_types.specs.Soundness.{IsSound};
+ghost use Rattle.corridor_search.specs.MeshGraphs.{IsThere, vertex_of};
+ghost use Rattle.corridor_search.specs.Estimates.{estimate_from};
+ghost use Rattle.path_queries.specs.Filters.{IsFilter};
+ghost use Rattle.path_queries.specs.FilteredGraphs.{IsLeastCost};
+ghost use Rattle.path_queries.specs.Searches.{IsSearchedThrough};
+
+use crate::filtered_graph::FilteredGraph;
+use crate::filters::{Filter, least_cost, search_costs};
+use corridor_search::{extent_at, middle, vertex_at};
+use graph_search::{Explored, Limits, Vertex, explore};
+use mesh_types::{Mesh, PolyRef};
+use nav_base::Point;
+use nav_ground::AREAS;
+use std::alloc::{AllocError, Global};
+
+/// Searches from a polygon through a filter within limits, up to the first of some goals.
+pub(crate) fn search_through(
+    alloc: Global,
+    mesh: &Mesh,
+    filter: &Filter,
+    from: PolyRef,
+    goals: &[PolyRef],
+    limits: Limits,
+) -> Result<Explored, AllocError>
+    requires sound { IsSound mesh.now }
+    requires setting { IsSetting mesh.now.setting }
+    requires filter { IsFilter filter.now }
+    requires from { IsThere mesh.now from }
+    requires goals { All (IsThere mesh.now) goals.now }
+    ensures { IfOk result (λ found. IsSearchedThrough mesh.now filter.now from goals.now limits found.reached.items found.seen) }
+{
+    let costs = filter.costs.unwrap_or(mesh.setting.costs);
+    let heading = heading_for(mesh, filter.areas, &costs, goals);
+    let graph = FilteredGraph {
+        mesh,
+        areas: filter.areas,
+        costs: &search_costs(filter.areas, &costs),
+        start: from,
+        aim: heading.aim,
+        least: heading.least,
+    };
+    let stops = vertices(alloc, goals)?;
+    explore(alloc, &graph, vertex_at(from), stops.as_slice(), limits)
+}
+
+/// The vertices of polygons, in order.
+fn vertices(alloc: Global, polygons: &[PolyRef]) -> Result<Vec<Vertex>, AllocError>
+    ensures { IfOk result (λ vertices. vertices.items ≡ map vertex_of polygons.now) }
+{
+    let vertices = polygons.iter().map(|at| Vertex {
+        block: at.tile,
+        place: at.index,
+    });
+    vertices.collect(alloc)
+}
+
+/// What the estimate of a search goes by: a place, and what a sixteenth of a cell on the way there costs at least; 0 for no estimate.
+#[derive(Clone, Copy)]
+struct Heading {
+    aim: Point,
+    least: u32,
+}
+
+/// The heading for goals: where there is one alone, its middle.
+fn heading_for(mesh: &Mesh, areas: u64, costs: &[u32; AREAS], goals: &[PolyRef]) -> Heading
+    requires sound { IsSound mesh.now }
+    requires goals { All (IsThere mesh.now) goals.now }
+    ensures in_field { IsInField result.aim }
+    ensures least { (result.least ≡ 0) ⊎ IsLeastCost areas costs.now result.least }
+    ensures no_rest { (goal : PolyRef) → Contains goals.now goal → estimate_from mesh.now result.aim goal * result.least ≡ 0 }
+    ensures no_goal { goals.now ≡ [] → result.least ≡ 0 }
+{
+    if goals.len() != 1 {
+        return Heading {
+            aim: Point { x: 0, z: 0 },
+            least: 0,
+        };
+    }
+    let aim = middle(extent_at(mesh, goals[0]));
+    let least = least_cost(areas, costs);
+    Heading { aim, least }
+}

@@ -1,0 +1,5 @@
+pub mod Statuses
+pub mod Places
+pub mod Nearing
+pub mod Heights
+pub mod Checking

@@ -1,0 +1,5 @@
+pub mod Filtering
+pub mod Reading
+pub mod Planning
+pub mod Flooding
+pub mod Checking

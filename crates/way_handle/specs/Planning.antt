@@ -1,0 +1,53 @@
+-- Plans over the border: which question for a way is asked, and what is told of its answer.
+use Rattle.std.specs.Prelude.{ℕ, List, length, map}
+use Rattle.mesh_types.specs.declared.answers.PathFound.{PathFound}
+use Rattle.path_queries.specs.declared.plans.PathQuery.{PathQuery}
+use Rattle.path_queries.specs.declared.plans.PlanAnswer.{PlanAnswer}
+use Rattle.path_queries.specs.declared.plans.PlanAnswer.TheVariants.{Whole, Limit, NoStart, NoGoal, NoPath}
+use Rattle.nav_handle.specs.declared.wire.NavdLink.{NavdLink}
+use Rattle.nav_handle.specs.declared.wire.NavdTurn.{NavdTurn}
+use Rattle.nav_handle.specs.Statuses as status
+use Rattle.nav_handle.specs.Wire.{laid, link_told, point_of, polygon_told, turn_told}
+use Rattle.way_handle.specs.declared.plans.NavdPlan.{NavdPlan}
+use Rattle.way_handle.specs.Filtering.{filter_asked}
+
+-- the question: from where to where, through the filter of these areas and costs, within the limits
+abbrev pub plan_asked : NavdPlan → List ℕ → PathQuery
+plan_asked plan costs = record {
+  from = point_of plan.way.from;
+  from_y = plan.way.from_y;
+  goal = point_of plan.way.to;
+  goal_y = plan.way.to_y;
+  filter = filter_asked plan.areas costs;
+  most_cost = plan.most_cost;
+  most_polygons = plan.most_polygons;
+}
+
+-- how it ends with an answer
+abbrev pub plan_ends : PlanAnswer → ℕ
+plan_ends (Whole found) = status.ok
+plan_ends (Limit seen) = status.limit
+plan_ends NoStart = status.no_start
+plan_ends NoGoal = status.no_goal
+plan_ends NoPath = status.no_path
+
+-- the host's places: for the way, and room for its links and for its turns
+abbrev pub PlanRoom : Type 0
+PlanRoom = NavdPlan × List NavdLink × List NavdTurn
+
+-- a way is told with its links and turns as far as there is room; where a limit ended the search, how far was seen; of another answer nothing is told
+abbrev pub told_plan : PlanAnswer → PlanRoom → PlanRoom
+told_plan (Whole found) room = (
+  record room.0 {
+    cost = found.cost;
+    first = polygon_told found.first;
+    links = length found.links;
+    turns = length found.turns;
+  },
+  laid (map link_told found.links) room.1,
+  laid (map turn_told found.turns) room.2,
+)
+told_plan (Limit seen) room = (record room.0 { seen = seen }, room.1, room.2)
+told_plan NoStart room = room
+told_plan NoGoal room = room
+told_plan NoPath room = room
