@@ -1,12 +1,13 @@
 #!/usr/bin/env python3
 """Checks live runs by the built program, of random scripts or of one input: that each lane's requests are its entries in order, that the
-lengths of a lane do not fall and cover its entries at a settle, and each answer with length K against a play of the first K entries of the
-printed history. What the lines of a lane's walker are told is worked out from the lines before them: the path from where the walker stands is
+lengths of a lane do not fall and cover its entries at a settle, that the length of each question is 0 or one that some lane's settle
+published, and each answer with length K against a play of the first K entries of the printed history. What the lines of a lane's walker are told is worked out from the lines before them: the path from where the walker stands is
 asked in that play, tested against a mesh that `play_check.py` builds, with a search of its own and the rule of taut lines, and then followed for
 the length of the march, step by step. A march along another path of the same cost would be right too, and is not looked for.
 
-usage: live_check.py NAVD RUNS [SEED]     so many random scripts (default seed 1)
-       live_check.py NAVD INPUT           the live run of one input
+usage: live_check.py NAVD RUNS [SEED]          so many random scripts (default seed 1)
+       live_check.py NAVD RUNS SEED held       the same, in each of them one thread held for a while at one of its calls (hostile/preload.py)
+       live_check.py NAVD INPUT                the live run of one input
 """
 import importlib.util
 import os
@@ -73,6 +74,14 @@ def run(navd, word, text):
     ran = subprocess.run([navd, word], input=text.encode(), capture_output=True, timeout=100)
     assert ran.returncode == 0, (word, ran.returncode, ran.stdout[:100])
     return ran.stdout.decode().splitlines()
+
+
+def run_held(preload, threads, text, rng):
+    """A live run of which one thread sleeps for a while: any of them, in any of its first calls of the C library."""
+    hold = f"{rng.randrange(threads)} {rng.randrange(1, rng.choice([20, 200, 2000]))} {rng.randrange(5, 80)}"
+    status, out, _ = preload.run(["live"], text.encode(), hold=hold)
+    assert status == 0, (status, hold, out[:100])
+    return out.decode().splitlines()
 
 
 def answers(out):
@@ -203,11 +212,12 @@ def read_input(text):
     return lines[:end], workers, lanes
 
 
-def check(navd, head, workers, lanes):
+def check(navd, head, workers, lanes, preload, rng):
     script = [f"script {len(lanes)} {workers}"]
     for at, lines in enumerate(lanes):
         script += [f"lane {at}", *lines]
-    out = run(navd, "live", "\n".join(head + script) + "\n")
+    text = "\n".join(head + script) + "\n"
+    out = run_held(preload, 1 + len(lanes) + workers, text, rng) if preload else run(navd, "live", text)
     n = int(out[0].split()[1])
     entries = [it.split() for it in out[1 : n + 1]]
     assert [it[:2] for it in entries] == [["entry", str(k + 1)] for k in range(n)]
@@ -227,6 +237,7 @@ def check(navd, head, workers, lanes):
             meshes[k] = mesh_after(second, entries[:k])
         return meshes[k]
 
+    published = {0} | {int(line.split()[1]) for said in parts for line in said if line.startswith("settled")}
     for at, (lines, said) in enumerate(zip(lanes, parts, strict=True)):
         said, own, k, adds = answers(said), [e for e in entries if e[2] == str(at)], 0, []
         newest, walker, goal = 0, None, None
@@ -247,6 +258,7 @@ def check(navd, head, workers, lanes):
                 continue
             assert k <= int(told[1]) <= n
             k = int(told[1])
+            assert k in published, (line, answer, published)
             if words[0] == "settle":
                 assert told[0] == "settled" and k >= newest
             elif words[0] in ("send", "march"):
@@ -292,12 +304,16 @@ def check(navd, head, workers, lanes):
     return len(asked), sum(len(v) for v in asked.values()) - walks, n, walks
 
 
+preload, rng = None, None
 if sys.argv[2].isdigit():
     rng = random.Random(int(sys.argv[3]) if len(sys.argv) > 3 else 1)
     inputs = (random_input(rng) for _ in range(int(sys.argv[2])))
+    if sys.argv[4:] == ["held"]:
+        sys.path.insert(0, os.path.join(os.path.dirname(os.path.abspath(__file__)), "..", "hostile"))
+        preload = importlib.import_module("preload").Preload(sys.argv[1])
 else:
     inputs = [read_input(open(sys.argv[2]).read())]
 totals = [0, 0, 0, 0]
 for head, workers, lanes in inputs:
-    totals = [a + b for a, b in zip(totals, check(sys.argv[1], head, workers, lanes))]
+    totals = [a + b for a, b in zip(totals, check(sys.argv[1], head, workers, lanes, preload, rng))]
 print("lengths named", totals[0], "questions", totals[1], "entries", totals[2], "all as in plays; sends and marches", totals[3], "all right")
