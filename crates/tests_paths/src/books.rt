@@ -268,8 +268,8 @@ pub(crate) enum Step {
     Lengths,
     /// How many polygons and links there are.
     Counts,
-    /// The last entry.
-    Last,
+    /// Whether the last entry is of this lane and this request, with this reply.
+    Last(u32, Asked, Reply),
 }
 
 /// What a step was answered.
@@ -280,7 +280,7 @@ pub(crate) enum Told {
     NoMemory,
     /// The number of a request, and the reply.
     Reply(Result<(u32, Reply), HistoryFull>),
-    /// The length that is aimed at, the tile that is claimed, or the length at which a history was not filled.
+    /// The length that is aimed at, the tile that is claimed, the length at which a history was not filled, or 1 where it is so.
     Number(u32),
     Submitted(Submitted),
     Published(Result<Published, AllocError>),
@@ -291,7 +291,6 @@ pub(crate) enum Told {
     /// No polygon holds the goal, and so much is published.
     NoGoal(u32),
     Numbers(u32, u32),
-    Last(Option<Entry>),
 }
 
 fn fill(book: &mut Book) -> Told {
@@ -382,8 +381,21 @@ fn seen(book: &Book, alloc: Global, step: Step) -> Told {
             let (polygons, links) = book.mesh_counts();
             Told::Numbers(polygons, links)
         }
-        Step::Last => Told::Last(book.entries().last().copied()),
+        Step::Last(lane, asked, reply) => Told::Number(is_last(book, lane, asked, reply)),
         _ => Told::Nothing,
+    }
+}
+
+/// 1 where the last entry is this one, else 0.
+fn is_last(book: &Book, lane: u32, asked: Asked, reply: Reply) -> u32 {
+    let wanted = Entry {
+        lane,
+        request: request_of(asked),
+        reply,
+    };
+    match book.entries().last() {
+        Some(entry) if *entry == wanted => 1,
+        _ => 0,
     }
 }
 
@@ -534,21 +546,11 @@ static ASKINGS: [Row; 23] = [
         Told::Reply(Ok((11, Reply::Added { number: 11 }))),
     ),
     (Step::Lengths, Told::Numbers(11, 0)),
-    (Step::Last, Told::Last(Some(LAST))),
+    (
+        Step::Last(3, Asked::Block(1), Reply::Added { number: 11 }),
+        Told::Number(1),
+    ),
 ];
-
-const LAST: Entry = Entry {
-    lane: 3,
-    request: Request::Add(Shape::Block {
-        x0: 1,
-        x1: 1,
-        y0: 0,
-        y1: 100,
-        z0: 1,
-        z1: 1,
-    }),
-    reply: Reply::Added { number: 11 },
-};
 
 /// What is published, and what is seen of it. In the last ten rows columns of the edge and those outside have no floors, and each other one has
 /// one.
