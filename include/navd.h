@@ -102,6 +102,52 @@ typedef struct {
     int32_t x, z;
 } navd_point;
 
+/* A point of a game, y up, and a place in a frame: x and z in sixteenths of a cell from its corner, y in height units. */
+typedef struct {
+    float x, y, z;
+} navd_world_point;
+
+typedef struct {
+    int32_t x, y, z;
+} navd_frame_place;
+
+/* The sizes of a cell and a height unit in the game's unit, and the corner of a field, in cells and height units from 0 of its numbers. */
+typedef struct {
+    float cell_size, cell_height;
+    int32_t x, y, z;
+} navd_frame;
+
+/* A frame, and the columns of its field along x and z. */
+typedef struct {
+    navd_frame frame;
+    uint32_t width, depth;
+} navd_framed_field;
+
+/* How steep a triangle may be that somebody can walk on: `rise` height units, 0 to 16384, over `run` sixteenths of a cell, 0 to 131072; with 0
+ * nothing is too steep. Where `both_sides` is not 0, the side that lies up does not matter. */
+typedef struct {
+    uint32_t rise, run, both_sides;
+} navd_slope;
+
+/* What the header of a field text says, in its limits (docs/FORMATS.md): where `contours` is 0 a polygon is a strip of cells, and where `clear` is 0
+ * agents keep their radius from walls alone. */
+typedef struct {
+    uint32_t width, depth, tile, height, climb, radius, error, contours, limit, clear;
+} navd_setting;
+
+typedef struct {
+    navd_frame frame;
+    navd_slope slope;
+    navd_setting setting;
+} navd_mesh;
+
+/* A triangle that fails: how many stand before it, and why. 1: it names a vertex that there is none of. 2: a number is none, or infinite. 3: a corner
+ * lies outside the field. 4: its area is above 63. */
+typedef struct {
+    size_t place;
+    uint32_t kind;
+} navd_mesh_fault;
+
 /* A block: the columns x0 to x1 and z0 to z1, 0 to 1023, where a floor lies at y0 to y1, 0 to 8191. No range runs backwards. */
 typedef struct {
     uint32_t x0, x1, y0, y1, z0, z1;
@@ -269,6 +315,38 @@ typedef struct {
     size_t via;
 } navd_reached;
 
+/* A place to which a way may lead. */
+typedef struct {
+    navd_point at;
+    uint32_t y;
+} navd_goal;
+
+/* A question for the nearest of many goals. The host writes the place in which ways begin, the areas that may be entered, and up to which cost ways are
+ * looked at (UINT64_MAX: no limit). The call leaves the place of the nearest goal in the array, from 0, what the way there costs, or `seen`, the polygons
+ * in which it begins and ends, and how many links it has. */
+typedef struct {
+    navd_point at;
+    uint32_t y;
+    uint64_t areas, most_cost;
+    size_t which;
+    uint64_t cost, seen;
+    navd_polygon first, last;
+    size_t links;
+} navd_nearest;
+
+/* A walker on a kept path. The host writes the polygon in which the path begins, the two ends of its line, how far along that the walker has gone, in
+ * sixteenths of a cell along the longer axis of each leg, how many links from where it is on are looked at beside those that it uses, and how many
+ * links are behind it. The call leaves how many are behind it then, the polygon and the point where it is, and that polygon's least floor. */
+typedef struct {
+    navd_polygon first;
+    navd_point from, goal;
+    uint32_t far, ahead;
+    size_t link;
+    navd_polygon polygon;
+    navd_point at;
+    uint32_t y;
+} navd_follower;
+
 /* A place on the mesh: a polygon, a point that it holds, and the floor there, in height units. It is the host's own. Once the view shows another mesh,
  * navd_view_is_place tells whether it is still a place. */
 typedef struct {
@@ -319,6 +397,29 @@ uint32_t navd_open(navd_level *level, const uint8_t *text, size_t length, navd_f
  * then.
  * NAVD_OK. NAVD_FAULTY: the fault is told. NAVD_TOO_MANY_SPANS. NAVD_NO_MEMORY. In these three the handle holds what it held. */
 uint32_t navd_open_triangles(navd_level *level, const uint8_t *text, size_t length, navd_fault *fault);
+
+/* == Levels in a game's own numbers ==
+ * Floats are turned into whole numbers by one exact law: each becomes the multiple of a step that is nearest to it, of two the even one. Steps
+ * are a sixteenth of a cell along x and z, and a height unit along y, which points up. They are counted from 0 of the game's numbers, so that moving
+ * a level's corner moves no grid. A number that is none, infinite, or 2^23 steps or more from 0 is out of its limits. */
+
+/* The frame of these sizes, 2^-10 to 2^10 each, whose field begins in the last whole column that is not behind `low`, at its height, and the
+ * columns that reach from there to `high`. The sizes' corner is not read.
+ * NAVD_OK. NAVD_OUT_OF_RANGE: no field of 1024 columns a side and 8190 height units holds both. */
+uint32_t navd_frame_of(const navd_frame *sizes, const navd_world_point *low, const navd_world_point *high, navd_framed_field *field);
+
+/* Turns points into places of a frame, one after the other; how many were turned is left at `count`.
+ * NAVD_OK: all. NAVD_NO_ROOM: there is no room for the next one. NAVD_OUT_OF_RANGE: the next one has no place. In all three `count` were turned. */
+uint32_t navd_quantize(const navd_frame *frame, const navd_world_point *points, size_t how_many, navd_frame_place *places, size_t room,
+                       size_t *count);
+
+/* Opens the level of a mesh: three numbers of `vertices` a vertex, three of `corners` a triangle, and one of `areas` a triangle, or none at all:
+ * 63 each. A triangle keeps its area where somebody can walk on it, and has 0 elsewhere; its upper side is up where (b - a) x (c - a) is. What stands
+ * upright on a line between columns counts for the column behind it. Each area costs 1. A level that the handle held is closed then.
+ * NAVD_OK. NAVD_FAULTY: the first triangle that fails is told. NAVD_OUT_OF_RANGE: the mesh, or the lengths of the arrays.
+ * NAVD_TOO_MANY_SPANS. NAVD_NO_MEMORY. In these four the handle holds what it held. */
+uint32_t navd_open_mesh(navd_level *level, const navd_mesh *mesh, const float *vertices, size_t numbers, const uint32_t *corners, size_t count,
+                        const uint8_t *areas, size_t area_count, navd_mesh_fault *fault);
 
 /* Closes the level, if the handle holds one; the handle holds nothing then. */
 void navd_close(navd_level *level);
@@ -411,10 +512,10 @@ void navd_job_close(navd_job *job);
  * NAVD_OK. NAVD_EMPTY. NAVD_NO_MEMORY. */
 uint32_t navd_floors(navd_level *level, uint32_t x, uint32_t z, navd_floor *floors, size_t room, size_t *count);
 
-/* For a host that asks a level for many paths before it changes: makes landmarks of what is published, where there are none yet. That takes about as
- * much time as thirty paths, and 32 bytes a polygon; later paths take about a fifth, until the next publish that shows something new. Views have
- * none. So far all is measured and not proved. What is asked is answered rightly either way; of several corridors that cost the same another one
- * may be told.
+/* For a host that asks a level for many paths: makes landmarks of what is published, where there are none yet. That takes about as much time as
+ * thirty paths, and 32 bytes a polygon; later paths take about a fifth. A publish keeps them where it can; else there are none. Views have none.
+ * So far all is measured and not proved. What is asked is answered rightly either way; of several corridors that cost the same another one may
+ * be told.
  * NAVD_OK. NAVD_EMPTY. NAVD_NO_MEMORY. */
 uint32_t navd_prepare(navd_level *level);
 
@@ -525,6 +626,24 @@ uint32_t navd_view_check_path(navd_view *view, navd_kept *kept, const uint32_t *
 /* The polygons to which an allowed walk leads that costs at most flood->most_cost, each once, by rising costs; the first is that of the place.
  * NAVD_OK. NAVD_NO_START. NAVD_OUT_OF_RANGE: before all others. NAVD_EMPTY. NAVD_NO_MEMORY. */
 uint32_t navd_view_flood(navd_view *view, navd_flood *flood, const uint32_t *costs, size_t costs_count, navd_reached *reached, size_t room);
+
+/* The nearest of many goals: no allowed walk to any of them costs less than that to this one, of which the links are laid into `links`. With one goal, no
+ * costs and all areas its cost is that of navd_view_find_path.
+ * NAVD_OK. NAVD_LIMIT: each allowed walk to a goal costs at least nearest->seen, which alone is told and is more than most_cost. NAVD_NO_START.
+ * NAVD_NO_GOAL: no polygon holds any of the goals. NAVD_NO_PATH: no allowed walk leads to any of them. NAVD_OUT_OF_RANGE: before all others.
+ * NAVD_EMPTY. NAVD_NO_MEMORY. */
+uint32_t navd_view_nearest_goal(navd_view *view, navd_nearest *nearest, const uint32_t *costs, size_t costs_count, const navd_goal *goals,
+                                size_t count, navd_link *links, size_t room);
+
+/* Where a walker on a path is that has gone so far along its line, without a search and through no filter. `links` and `turns` are those of the path as
+ * they were told: fewer than 4294967295 links, and each turn names one of them. Those on the way to the next turn, or the goal, are looked at, and
+ * follower->ahead of those from where it is on.
+ * NAVD_OK: all of these are links of the mesh still, one behind the other; where they are all that are left, the last polygon holds the goal.
+ * NAVD_CUT: follower->link, which alone is told, is the place of the first that is not, or where it is the count of all, the goal has left the last
+ * polygon. NAVD_NO_START: the polygon of the last turn that it passed, or of the line's beginning, does not hold that point, nor does another on the
+ * way hold one that it reaches. NAVD_OUT_OF_RANGE: before all others. NAVD_EMPTY. NAVD_NO_MEMORY. */
+uint32_t navd_view_follow_path(navd_view *view, navd_follower *follower, const navd_link *links, size_t count, const navd_turn *turns,
+                               size_t turns_count);
 
 /* == Questions about places, asked of what a view shows ==
  * They change nothing. The floor of a polygon at a point that it holds is that of the polygon's cell there; where the polygon strays off its cells, that

@@ -1,6 +1,6 @@
 #!/usr/bin/env python3
 """Compares the five places that say how a host calls the library, which people write by hand: include/navd.h, the exports and #[repr(C)]
-structs of the library (crates/nav_ffi, nav_handle, way_handle and place_handle), hosts/rust/src/sys.rs, hosts/python/navd.py and
+structs of the library (crates/nav_ffi, nav_handle, way_handle, place_handle, mesh_handle and world_grid), hosts/rust/src/sys.rs, hosts/python/navd.py and
 hosts/csharp/Navd.cs. The linker compares names alone. hosts/cpp/navd.hpp includes the header: of it each call and each status number is wanted, and its compiler
 compares the rest.
 
@@ -23,9 +23,10 @@ from unittest import mock
 
 HEADER, RUST, PYTHON = "include/navd.h", "hosts/rust/src/sys.rs", "hosts/python/navd.py"
 CSHARP, CPP, VERSION = "hosts/csharp/Navd.cs", "hosts/cpp/navd.hpp", "VERSION"
-LIBRARY = ("crates/nav_ffi/src", "crates/nav_handle/src", "crates/way_handle/src", "crates/place_handle/src")
-C_TYPES = {"uint8_t": "u8", "uint32_t": "u32", "int32_t": "i32", "uint64_t": "u64", "int64_t": "i64", "size_t": "usize", "void": "nothing"}
-CSHARP_TYPES = {"byte": "u8", "uint": "u32", "int": "i32", "ulong": "u64", "long": "i64", "UIntPtr": "usize", "IntPtr": "pointer",
+LIBRARY = tuple(f"crates/{name}/src" for name in ("nav_ffi", "nav_handle", "way_handle", "place_handle", "mesh_handle", "world_grid"))
+C_TYPES = {"uint8_t": "u8", "uint32_t": "u32", "int32_t": "i32", "uint64_t": "u64", "int64_t": "i64", "size_t": "usize", "float": "f32",
+           "void": "nothing"}
+CSHARP_TYPES = {"byte": "u8", "uint": "u32", "int": "i32", "ulong": "u64", "long": "i64", "UIntPtr": "usize", "float": "f32", "IntPtr": "pointer",
                 "void": "nothing", "Status": "u32"}
 ORDINALS = ("first", "second", "third", "fourth", "fifth", "sixth", "seventh", "eighth", "")
 HANDLES = ("level", "view", "job")
@@ -190,7 +191,7 @@ class Library:
 
 
 def python_type(told):
-    numbers = {Size: "usize", ctypes.c_char_p: "* u8", ctypes.c_void_p: "pointer", None: "nothing"}
+    numbers = {Size: "usize", ctypes.c_char_p: "* u8", ctypes.c_void_p: "pointer", ctypes.c_float: "f32", None: "nothing"}
     for bits in (8, 32, 64):
         numbers |= {getattr(ctypes, f"c_uint{bits}"): f"u{bits}", getattr(ctypes, f"c_int{bits}"): f"i{bits}"}
     if told in numbers:

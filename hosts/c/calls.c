@@ -316,6 +316,46 @@ static void of_ways(void) {
         if (status == NAVD_OK && reached[i].via != SIZE_MAX / 255 * 7) ENDS(1, "the room behind a flood", 0);
 }
 
+/* The nearest of some goals, and a walker on the way that was told last, in what may be another mesh by now. */
+static void of_goals(void) {
+    static navd_link links[4096];
+    static navd_turn turns[64];
+    static navd_plan plan;
+    static navd_way way;
+    uint32_t shows, status;
+    navd_goal goals[4];
+    navd_link laid[8];
+    size_t count = pick(5), room = pick(8);
+    bool are_asked = true;
+    for (size_t i = 0; i < count; i++) {
+        goals[i] = (navd_goal){{coordinate(), coordinate()}, height()};
+        are_asked &= is_way(&(navd_way){goals[i].at, 0, goals[i].at, 0});
+    }
+    ENDS(navd_look(&view, &first, &shows), "navd_look", NAVD_OK);
+    navd_nearest nearest = {.at = {coordinate(), coordinate()}, .y = height(), .areas = pick(3) ? UINT64_MAX : ~(UINT64_C(1) << pick(64)),
+                            .most_cost = pick(3) ? UINT64_MAX : pick(3000), .which = SIZE_MAX};
+    are_asked &= is_way(&(navd_way){nearest.at, 0, nearest.at, 0});
+    status = navd_view_nearest_goal(&view, &nearest, &shows, 0, goals, count, laid, room);
+    if (are_asked) ENDS(status, "navd_view_nearest_goal", NAVD_OK, NAVD_LIMIT, NAVD_NO_START, NAVD_NO_GOAL, NAVD_NO_PATH);
+    else ENDS(status, "navd_view_nearest_goal", NAVD_OUT_OF_RANGE);
+    made_by[status]++;
+    if (status == NAVD_OK && (nearest.which >= count || nearest.cost > nearest.most_cost)) ENDS(1, "the nearest goal", 0);
+    if (status == NAVD_LIMIT && nearest.seen <= nearest.most_cost) ENDS(1, "what was seen of goals", 0);
+    navd_follower follower = {.first = plan.first, .from = way.from, .goal = way.to, .far = pick(4) ? pick(2000) : UINT32_MAX - pick(3),
+                              .ahead = pick(3) ? pick(20) : UINT32_MAX, .link = pick(9) ? 0 : pick((uint32_t)plan.links + 2)};
+    navd_follower told = follower;
+    status = navd_view_follow_path(&view, &told, links, plan.links, turns, plan.turns);
+    if (follower.link <= plan.links) ENDS(status, "navd_view_follow_path", NAVD_OK, NAVD_CUT, NAVD_NO_START);
+    else ENDS(status, "navd_view_follow_path", NAVD_OUT_OF_RANGE);
+    made_by[status]++;
+    if (told.link < follower.link || told.link > (status == NAVD_OUT_OF_RANGE ? follower.link : plan.links)) ENDS(1, "the links behind a walker", 0);
+    if (told.far != follower.far || memcmp(&told.goal, &follower.goal, sizeof told.goal)) ENDS(1, "what a walker's host wrote", 0);
+    way = (navd_way){{coordinate(), coordinate()}, height(), {coordinate(), coordinate()}, height()};
+    plan = (navd_plan){.way = way, .areas = UINT64_MAX, .most_cost = UINT64_MAX, .most_polygons = SIZE_MAX};
+    status = navd_view_plan(&view, &plan, &shows, 0, links, 4096, turns, 64);
+    if (status != NAVD_OK || plan.links > 4096 || plan.turns > 64) plan = (navd_plan){.way = way}, way = (navd_way){{0, 0}, 0, {0, 0}, 0};
+}
+
 /* The nearest place, the height at a point of a polygon, and whether a place is one of what may be another mesh by now. */
 static void of_places(void) {
     static navd_place kept;
@@ -485,6 +525,11 @@ static void of_empty(void) {
     ENDS(navd_view_plan(&empty_view, &plan, costs, 64, links, 1, turns, 1), "an empty handle", NAVD_EMPTY);
     ENDS(navd_view_check_path(&empty_view, &kept, costs, 64, links, 1, turns, 1), "an empty handle", NAVD_EMPTY);
     ENDS(navd_view_flood(&empty_view, &flood, costs, 0, reached, 1), "an empty handle", NAVD_EMPTY);
+    navd_nearest nearest = {.at = {1, 1}};
+    navd_goal goal = {.at = {1, 1}};
+    navd_follower follower = {.at = {1, 1}};
+    ENDS(navd_view_nearest_goal(&empty_view, &nearest, costs, 0, &goal, 1, links, 1), "an empty handle", NAVD_EMPTY);
+    ENDS(navd_view_follow_path(&empty_view, &follower, links, 0, turns, 0), "an empty handle", NAVD_EMPTY);
     navd_near near = {.at = {1, 1}};
     navd_place on_mesh = {.at = {1, 1}};
     ENDS(navd_view_nearest(&empty_view, &near, &on_mesh), "an empty handle", NAVD_EMPTY);
@@ -546,7 +591,7 @@ int main(int argc, char **words) {
         case 5: case 6: pick(5) ? build() : renew(); break;
         case 7: case 8: job(); break;
         case 9: pick(4) ? look() : of_view(); break;
-        case 10: pick(2) ? of_ways() : of_places(); break;
+        case 10: pick(2) ? of_ways() : pick(2) ? of_places() : of_goals(); break;
         default: question();
         }
     agree();

@@ -277,6 +277,21 @@ public:
 
 } // namespace detail
 
+/// The field around two points, in sizes of cells and height units.
+inline Status frame_of(const navd_frame &sizes, const navd_world_point &low, const navd_world_point &high, navd_framed_field &field) noexcept {
+    return Status{navd_frame_of(&sizes, &low, &high, &field)};
+}
+
+/// The places of points in a frame, one after the other; as many as were turned are left in `places`.
+inline Status quantize(const navd_frame &frame, const std::vector<navd_world_point> &points, std::vector<navd_frame_place> &places) {
+    static const navd_world_point no_point = {};
+    places.resize(points.size() + 1);
+    size_t count = 0;
+    Status ends{navd_quantize(&frame, points.empty() ? &no_point : points.data(), points.size(), places.data(), points.size(), &count)};
+    places.resize(count);
+    return ends;
+}
+
 class Job : public detail::Owner<navd_job, navd_job_close> {
 public:
     Status build() noexcept { return Status{navd_build(&handle)}; }
@@ -289,6 +304,16 @@ public:
     }
     Status open_triangles(std::string_view text, navd_fault &fault) noexcept {
         return Status{navd_open_triangles(&handle, bytes(text), text.size(), &fault)};
+    }
+
+    Status open_mesh(const navd_mesh &mesh, const std::vector<float> &vertices, const std::vector<uint32_t> &corners,
+                     const std::vector<uint8_t> &areas, navd_mesh_fault &fault) noexcept {
+        static const float no_vertex = 0;
+        static const uint32_t no_corner = 0;
+        static const uint8_t no_area = 0;
+        return Status{navd_open_mesh(&handle, &mesh, vertices.empty() ? &no_vertex : vertices.data(), vertices.size(),
+                                     corners.empty() ? &no_corner : corners.data(), corners.size(),
+                                     areas.empty() ? &no_area : areas.data(), areas.size(), &fault)};
     }
 
     Status add_block(const navd_block &block, uint32_t area, uint32_t &entry) noexcept {
@@ -399,6 +424,29 @@ public:
         path.first = told.first;
         limits.seen = told.seen;
         return status;
+    }
+
+    // The nearest of many goals, by a way that costs at most `most_cost`: which it is, and that way's cost, ends and links. After Status::limit each way
+    // to a goal costs at least told.seen.
+    Status nearest_goal(navd_point at, uint32_t y, Array<navd_goal> goals, uint64_t most_cost, const Filter &filter, navd_nearest &told,
+                        std::vector<navd_link> &links) {
+        told = {};
+        told.at = at;
+        told.y = y;
+        told.areas = filter.areas;
+        told.most_cost = most_cost;
+        return detail::all(links, [&](navd_link *to, size_t *count) {
+            const uint32_t end = navd_view_nearest_goal(&handle, &told, detail::address(filter.costs.data()), filter.costs.size(),
+                                                        detail::address(goals.data()), goals.size(), to, *count);
+            *count = told.links;
+            return end;
+        });
+    }
+
+    // Where a walker on a path is.
+    Status follow_path(const Path &path, navd_follower &follower) noexcept {
+        return Status{navd_view_follow_path(&handle, &follower, detail::address(path.links.data()), path.links.size(),
+                                            detail::address(path.turns.data()), path.turns.size())};
     }
 
     // The nearest place. After Status::no_place none is in reach, and `place` is as it was.

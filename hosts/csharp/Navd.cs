@@ -99,6 +99,64 @@ namespace Navd
         public uint R, Y0, Y1;
     }
 
+    /// <summary>A point of a game; Y points up.</summary>
+    [StructLayout(LayoutKind.Sequential)]
+    public struct WorldPoint
+    {
+        public float X, Y, Z;
+    }
+
+    /// <summary>A place in a frame: X and Z in sixteenths of a cell from its corner, Y in height units.</summary>
+    [StructLayout(LayoutKind.Sequential)]
+    public struct FramePlace
+    {
+        public int X, Y, Z;
+    }
+
+    /// <summary>The sizes of a cell and a height unit, and the corner of a field, in cells and height units from 0 of the game's numbers.</summary>
+    [StructLayout(LayoutKind.Sequential)]
+    public struct Frame
+    {
+        public float CellSize, CellHeight;
+        public int X, Y, Z;
+    }
+
+    [StructLayout(LayoutKind.Sequential)]
+    public struct FramedField
+    {
+        public Frame Frame;
+        public uint Width, Depth;
+    }
+
+    /// <summary>Height units over sixteenths of a cell; with a Run of 0 nothing is too steep.</summary>
+    [StructLayout(LayoutKind.Sequential)]
+    public struct Slope
+    {
+        public uint Rise, Run, BothSides;
+    }
+
+    [StructLayout(LayoutKind.Sequential)]
+    public struct Setting
+    {
+        public uint Width, Depth, Tile, Height, Climb, Radius, Error, Contours, Limit, Clear;
+    }
+
+    [StructLayout(LayoutKind.Sequential)]
+    public struct Mesh
+    {
+        public Frame Frame;
+        public Slope Slope;
+        public Setting Setting;
+    }
+
+    /// <summary>A triangle that fails. 1: no such vertex; 2: a number is none; 3: outside; 4: an area above 63.</summary>
+    [StructLayout(LayoutKind.Sequential)]
+    public struct MeshFault
+    {
+        public UIntPtr Place;
+        public uint Kind;
+    }
+
     /// <summary>From where to where, with heights that say in which storey.</summary>
     [StructLayout(LayoutKind.Sequential)]
     public struct Way
@@ -261,6 +319,42 @@ namespace Navd
         public UIntPtr Via;
     }
 
+    /// <summary>A place to which a way may lead.</summary>
+    [StructLayout(LayoutKind.Sequential)]
+    public struct Goal
+    {
+        public Point At;
+        public uint Y;
+    }
+
+    /// <summary>The nearest of many goals: its place among them, what the way there costs, that way's ends, and how many links it has; or that each way to
+    /// a goal costs at least Seen.</summary>
+    [StructLayout(LayoutKind.Sequential)]
+    public struct Nearest
+    {
+        public Point At;
+        public uint Y;
+        public ulong Areas, MostCost;
+        public UIntPtr Which;
+        public ulong Cost, Seen;
+        public Polygon First, Last;
+        public UIntPtr Links;
+    }
+
+    /// <summary>A walker on a kept path: the line's ends, how far it has gone, how many links are looked at beside those that it uses, and how many are
+    /// behind it; and where it is.</summary>
+    [StructLayout(LayoutKind.Sequential)]
+    public struct Follower
+    {
+        public Polygon First;
+        public Point From, Goal;
+        public uint Far, Ahead;
+        public UIntPtr Link;
+        public Polygon Polygon;
+        public Point At;
+        public uint Y;
+    }
+
     /// <summary>A place on the mesh: a polygon, a point that it holds, and the floor there.</summary>
     [StructLayout(LayoutKind.Sequential)]
     public struct Place
@@ -310,6 +404,14 @@ namespace Navd
         internal static extern Status navd_open(LevelHandle level, byte[] text, UIntPtr length, out Fault fault);
         [DllImport(Library)]
         internal static extern Status navd_open_triangles(LevelHandle level, byte[] text, UIntPtr length, out Fault fault);
+        [DllImport(Library)]
+        internal static extern Status navd_frame_of(ref Frame sizes, ref WorldPoint low, ref WorldPoint high, out FramedField field);
+        [DllImport(Library)]
+        internal static extern Status navd_quantize(ref Frame frame, WorldPoint[] points, UIntPtr howMany, [Out] FramePlace[] places, UIntPtr room,
+            out UIntPtr count);
+        [DllImport(Library)]
+        internal static extern Status navd_open_mesh(LevelHandle level, ref Mesh mesh, float[] vertices, UIntPtr numbers, uint[] corners, UIntPtr count,
+            byte[] areas, UIntPtr areaCount, out MeshFault fault);
         [DllImport(Library)]
         internal static extern void navd_close(IntPtr level);
         [DllImport(Library)]
@@ -414,6 +516,12 @@ namespace Navd
         [DllImport(Library)]
         internal static extern Status navd_view_plan(ViewHandle view, ref NavdPlan plan, uint[] costs, UIntPtr costsCount,
             [Out] Link[] links, UIntPtr linksRoom, [Out] Turn[] turns, UIntPtr turnsRoom);
+        [DllImport(Library)]
+        internal static extern Status navd_view_nearest_goal(ViewHandle view, ref Nearest nearest, uint[] costs, UIntPtr costsCount, Goal[] goals,
+            UIntPtr count, [Out] Link[] links, UIntPtr room);
+        [DllImport(Library)]
+        internal static extern Status navd_view_follow_path(ViewHandle view, ref Follower follower, Link[] links, UIntPtr count, Turn[] turns,
+            UIntPtr turnsCount);
         [DllImport(Library)]
         internal static extern Status navd_view_nearest(ViewHandle view, ref Near near, ref Place place);
         [DllImport(Library)]
@@ -737,6 +845,15 @@ namespace Navd
             return Native.navd_open_triangles(level, items, Given.Length(text), out fault);
         }
 
+        public Status OpenMesh(Mesh mesh, float[] vertices, uint[] corners, byte[] areas, out MeshFault fault)
+        {
+            float[] points = Given.Items(vertices, "vertices");
+            uint[] triples = Given.Items(corners, "corners");
+            byte[] given = Given.Items(areas, "areas");
+            return Native.navd_open_mesh(level, ref mesh, points, Given.Length(vertices), triples, Given.Length(corners), given, Given.Length(areas),
+                out fault);
+        }
+
         public Status AddBlock(Block block, uint area, out uint entry)
         {
             return Native.navd_add_block(level, ref block, area, out entry);
@@ -920,6 +1037,28 @@ namespace Navd
                 status = Native.navd_view_flood(view, ref told, costs, Given.Length(filter.Costs), reached.Items, reached.Length);
             } while (!reached.Takes(status == Status.Ok, told.Polygons));
             return status;
+        }
+
+        /// <summary>The nearest of many goals, by a way that costs at most mostCost. Status.Limit: each way to a goal costs at least told.Seen.</summary>
+        public Status NearestGoal(Point at, uint y, Goal[] goals, ulong mostCost, Filter filter, out Nearest told, Room<Link> links)
+        {
+            Status status;
+            uint[] costs = Given.Items(filter.Costs, "filter.Costs");
+            Goal[] given = Given.Items(goals, "goals");
+            told = new Nearest { At = at, Y = y, Areas = filter.Areas, MostCost = mostCost };
+            do
+            {
+                status = Native.navd_view_nearest_goal(view, ref told, costs, Given.Length(filter.Costs), given, Given.Length(goals), links.Items,
+                    links.Length);
+            } while (!links.Takes(status == Status.Ok, told.Links));
+            return status;
+        }
+
+        /// <summary>Where a walker on a path is.</summary>
+        public Status FollowPath(Path path, ref Follower follower)
+        {
+            UIntPtr links = (UIntPtr)(uint)path.Links.Count, turns = (UIntPtr)(uint)path.Turns.Count;
+            return Native.navd_view_follow_path(view, ref follower, path.Links.Items, links, path.Turns.Items, turns);
         }
 
         /// <summary>The nearest place. After Status.NoPlace none is in reach, and the place is as it was.</summary>

@@ -13,7 +13,7 @@ that is not there is an answer. The library is looked for in the environment's N
 import ctypes
 import math
 import os
-from ctypes import POINTER, Structure, byref, c_int32, c_int64, c_size_t, c_uint32, c_uint64, c_void_p
+from ctypes import POINTER, Structure, byref, c_float, c_int32, c_int64, c_size_t, c_uint8, c_uint32, c_uint64, c_void_p
 from dataclasses import dataclass
 from pathlib import Path
 
@@ -62,6 +62,38 @@ class _Prism(Structure):
 
 class _Disc(Structure):
     _fields_ = [("x", c_int32), ("z", c_int32), ("r", c_uint32), ("y0", c_uint32), ("y1", c_uint32)]
+
+
+class _WorldPoint(Structure):
+    _fields_ = [("x", c_float), ("y", c_float), ("z", c_float)]
+
+
+class _FramePlace(Structure):
+    _fields_ = [("x", c_int32), ("y", c_int32), ("z", c_int32)]
+
+
+class _Frame(Structure):
+    _fields_ = [("cell_size", c_float), ("cell_height", c_float), ("x", c_int32), ("y", c_int32), ("z", c_int32)]
+
+
+class _FramedField(Structure):
+    _fields_ = [("frame", _Frame), ("width", c_uint32), ("depth", c_uint32)]
+
+
+class _Slope(Structure):
+    _fields_ = [("rise", c_uint32), ("run", c_uint32), ("both_sides", c_uint32)]
+
+
+class _Setting(Structure):
+    _fields_ = [(name, c_uint32) for name in ("width", "depth", "tile", "height", "climb", "radius", "error", "contours", "limit", "clear")]
+
+
+class _Mesh(Structure):
+    _fields_ = [("frame", _Frame), ("slope", _Slope), ("setting", _Setting)]
+
+
+class _MeshFault(Structure):
+    _fields_ = [("place", c_size_t), ("kind", c_uint32)]
 
 
 class _Way(Structure):
@@ -140,6 +172,20 @@ class _Flood(Structure):
 
 class _Reached(Structure):
     _fields_ = [("polygon", _Polygon), ("cost", c_uint64), ("via", c_size_t)]
+
+
+class _Goal(Structure):
+    _fields_ = [("at", _Point), ("y", c_uint32)]
+
+
+class _Nearest(Structure):
+    _fields_ = [("at", _Point), ("y", c_uint32), ("areas", c_uint64), ("most_cost", c_uint64), ("which", c_size_t), ("cost", c_uint64),
+                ("seen", c_uint64), ("first", _Polygon), ("last", _Polygon), ("links", c_size_t)]
+
+
+class _Follower(Structure):
+    _fields_ = [("first", _Polygon), ("from_", _Point), ("goal", _Point), ("far", c_uint32), ("ahead", c_uint32), ("link", c_size_t),
+                ("polygon", _Polygon), ("at", _Point), ("y", c_uint32)]
 
 
 class _Place(Structure):
@@ -342,10 +388,27 @@ class Flooded:
 
 
 @dataclass(frozen=True)
+class NearestGoal:
+    """The nearest of many goals: its place among them, what the way there costs, and that way's ends and links."""
+    which: int
+    cost: int
+    first: Polygon
+    last: Polygon
+    links: list[Link]
+
+
+@dataclass(frozen=True)
 class MeshPlace:
     """A place on the mesh: a polygon, and a point that it holds, with the floor there."""
     polygon: Polygon
     at: Place
+
+
+@dataclass(frozen=True)
+class Followed:
+    """Where a walker on a path is, with how many links behind it, or where the path is cut: the place of the link that leads on no more, and no place."""
+    link: int
+    place: MeshPlace | None
 
 
 @dataclass(frozen=True)
@@ -370,6 +433,10 @@ def _library():
         "navd_version": [],
         "navd_open": [handle, ctypes.c_char_p, c_size_t, POINTER(_Fault)],
         "navd_open_triangles": [handle, ctypes.c_char_p, c_size_t, POINTER(_Fault)],
+        "navd_frame_of": [POINTER(_Frame), POINTER(_WorldPoint), POINTER(_WorldPoint), POINTER(_FramedField)],
+        "navd_quantize": [POINTER(_Frame), POINTER(_WorldPoint), c_size_t, POINTER(_FramePlace), c_size_t, count],
+        "navd_open_mesh": [handle, POINTER(_Mesh), POINTER(c_float), c_size_t, number, c_size_t, POINTER(c_uint8), c_size_t,
+                           POINTER(_MeshFault)],
         "navd_find_hop": hop, "navd_view_find_hop": hop, "navd_send": send, "navd_view_send": send, "navd_march": march, "navd_view_march": march,
         "navd_polygons": faces, "navd_view_polygons": faces, "navd_inner_links": links, "navd_view_inner_links": links,
         "navd_border_links": links, "navd_view_border_links": links,
@@ -404,6 +471,8 @@ def _library():
         "navd_view_check_path": [handle, POINTER(_Kept), number, c_size_t, POINTER(_Link), c_size_t, POINTER(_Turn), c_size_t],
         "navd_view_flood": [handle, POINTER(_Flood), number, c_size_t, POINTER(_Reached), c_size_t],
         "navd_view_plan": [handle, POINTER(_Plan), number, c_size_t, POINTER(_Link), c_size_t, POINTER(_Turn), c_size_t],
+        "navd_view_nearest_goal": [handle, POINTER(_Nearest), number, c_size_t, POINTER(_Goal), c_size_t, POINTER(_Link), c_size_t],
+        "navd_view_follow_path": [handle, POINTER(_Follower), POINTER(_Link), c_size_t, POINTER(_Turn), c_size_t],
         "navd_view_nearest": [handle, POINTER(_Near), POINTER(_Place)],
         "navd_view_height": [handle, POINTER(_Place)],
         "navd_view_is_place": [handle, POINTER(_Place)],
@@ -667,7 +736,7 @@ class Level(_Asked):
         return self._number(self._calls.navd_publish, allowed=(OK, SAME))[1]
 
     def prepare(self):
-        """Makes landmarks of what is published, by which paths are found sooner until something new is."""
+        """Makes landmarks of what is published, by which paths are found sooner."""
         status = self._calls.navd_prepare(byref(self._handle))
         if status:
             raise NavdError(status)
@@ -776,6 +845,36 @@ class View(_Asked):
             if flood.polygons <= len(room):
                 return [Flooded(_polygon(it.polygon), it.cost, it.via) for it in room[:flood.polygons]]
             room = (_Reached * flood.polygons)()
+
+    def nearest_goal(self, start, goals, most_cost=2**64 - 1, areas=all_areas, costs=()):
+        """The NearestGoal of many Places through a filter, a Limited, where each way to one costs more than `most_cost`, or a NoPath."""
+        told, given = _array(c_uint32, costs), _array(_Goal, [_Goal(_Point(it.x, it.z), it.y) for it in goals])
+        while True:
+            near = _Nearest(_Point(start.x, start.z), start.y, areas, most_cost)
+            status = self._calls.navd_view_nearest_goal(byref(self._handle), byref(near), told, len(costs), given, len(goals), self._links,
+                                                        len(self._links))
+            if status in (NO_START, NO_GOAL, NO_PATH):
+                return NoPath(status)
+            if status == LIMIT:
+                return Limited(near.seen)
+            if status:
+                raise NavdError(status)
+            if near.links <= len(self._links):
+                return NearestGoal(near.which, near.cost, _polygon(near.first), _polygon(near.last), [_link(it) for it in self._links[:near.links]])
+            self._links = (_Link * near.links)()
+
+    def follow(self, path, start, goal, far, link=0, ahead=0):
+        """Where a walker is that has gone so far along the line of a Path_, in sixteenths of a cell along the longer axis of each leg: a Followed, or a
+        NoPath. `link` is how many links are behind it, and `ahead` how many from there on are looked at beside those that it uses."""
+        links = _array(_Link, [_link_of(it) for it in path.links])
+        turns = _array(_Turn, [_Turn(_Point(*it.at), it.is_right, it.link) for it in path.turns])
+        told = _Follower(_polygon_of(path.first), _Point(start.x, start.z), _Point(goal.x, goal.z), far, ahead, link)
+        status = self._calls.navd_view_follow_path(byref(self._handle), byref(told), links, len(path.links), turns, len(path.turns))
+        if status == NO_START:
+            return NoPath(status)
+        if status not in (OK, CUT):
+            raise NavdError(status)
+        return Followed(told.link, None if status == CUT else MeshPlace(_polygon(told.polygon), Place(told.at.x, told.at.z, told.y)))
 
     def nearest(self, to, reach=64, down=28, up=28, weight=4, areas=all_areas):
         """The MeshPlace nearest to a Place, or None where none is in reach: `reach` in the plane, in sixteenths of a cell, `down` and `up` in height units.

@@ -5,6 +5,7 @@ pub mod Vertices
 pub mod LinkWeights
 pub mod Searchable
 pub mod MeshWalks
+pub mod Rows
 pub mod Extents
 pub mod EachLink
 pub mod LeftAlone

@@ -3,10 +3,11 @@
 
 ghost use Rattle.std.specs.Prelude.{◌<◌};
 
+use crate::keeping::Rows;
 use crate::landmarks::{LANDMARKS, UNREACHED};
 use crate::ways::{FlatArcs, number_at};
 use mesh_types::Mesh;
-use nav_lists::Items;
+use nav_lists::{Chunks, Items, Shared};
 use std::alloc::{AllocError, Global};
 use std::mem;
 
@@ -18,7 +19,7 @@ const ROUNDS: u32 = u32::MAX;
 
 /// Heights of all polygons over landmarks, by tile and place. The first landmark is a polygon that is farthest from some polygon of the
 /// largest island, and each further one is the polygon that is farthest from all before it.
-pub(crate) fn fill(alloc: Global, mesh: &Mesh) -> Result<Vec<Items<[u32; LANDMARKS]>>, AllocError> {
+pub(crate) fn fill(alloc: Global, mesh: &Mesh) -> Result<Rows, AllocError> {
     let mut tiles = level(alloc, mesh)?;
     let ways = FlatArcs::of(alloc, mesh)?;
     let mut search = DistanceFill::new(alloc, &ways)?;
@@ -35,19 +36,16 @@ pub(crate) fn fill(alloc: Global, mesh: &Mesh) -> Result<Vec<Items<[u32; LANDMAR
         }
         write(tiles.as_mut_slice(), column, search.heights.as_slice());
     }
-    as_items(alloc, tiles)
+    as_rows(alloc, tiles)
 }
 
-/// The same heights as lists that stay as they are.
-fn as_items(
-    alloc: Global,
-    tiles: Vec<Vec<[u32; LANDMARKS]>>,
-) -> Result<Vec<Items<[u32; LANDMARKS]>>, AllocError> {
+/// The same heights as lists that stay as they are and are shared.
+fn as_rows(alloc: Global, tiles: Vec<Vec<[u32; LANDMARKS]>>) -> Result<Rows, AllocError> {
     let mut made = Vec::with_capacity(alloc, tiles.len())?;
     for rows in tiles {
-        made.push(Items::from_vec(rows))?;
+        made.push(Shared::new(alloc, Items::from_vec(rows))?)?;
     }
-    Ok(made)
+    Chunks::from_vec(alloc, made)
 }
 
 /// Heights of 0 for all polygons.
@@ -239,12 +237,27 @@ impl BucketQueue {
 
     /// Begins anew, with one number of height 0.
     pub(crate) fn begin(&mut self, number: u32) -> Result<(), AllocError> {
+        self.clear();
+        self.lowest = 0;
+        self.push(0, number)
+    }
+
+    /// Begins anew, with no number, for heights not below the least given that are above the lowest by no more than given.
+    pub(crate) fn begin_from(&mut self, least: u32, most: u32) {
+        self.clear();
+        self.places = places(most);
+        self.lowest = self.list_of(least);
+    }
+
+    /// Lets all numbers go.
+    fn clear(&mut self) {
+        if self.waiting == 0 {
+            return;
+        }
         for list in self.lists.as_mut_slice() {
             list.clear();
         }
-        self.lowest = 0;
         self.waiting = 0;
-        self.push(0, number)
     }
 
     /// Adds a number.

@@ -1,6 +1,6 @@
 //! Landmarks: heights of polygons, by which a search of a mesh that stands closes fewer of them.
 
-ghost use Rattle.std.specs.Prelude.{◌≡◌, ℕ, true, All, IfOk, min, slice_index_or};
+ghost use Rattle.std.specs.Prelude.{◌≡◌, ℕ, true, All, IfOk, IfSome, min, slice_index_or};
 ghost use Rattle.nav_ground.specs.Limits.{IsSetting};
 ghost use Rattle.mesh_types.specs.Soundness.{IsSound};
 ghost use Rattle.mesh_types.specs.Corridors.{IsLinkOf};
@@ -9,9 +9,11 @@ ghost use Rattle.corridor_search.specs.Landmarks.{flat, heights_at, gap_of, are_
 
 use crate::filling::fill;
 use crate::islands::{inner_of, outer_of};
+use crate::keeping::{Rows, keep};
 use crate::weights::weight_over;
 use mesh_types::{Link, Mesh, PolyRef};
-use nav_lists::Items;
+use nav_ground::TileNo;
+use nav_lists::Chunks;
 use std::alloc::{AllocError, Global};
 use std::marker::Model;
 
@@ -30,8 +32,8 @@ pub(crate) const FLAT: [u32; LANDMARKS] = [0; LANDMARKS];
 /// bytes a polygon.
 #[derive(Drop)]
 pub struct Landmarks {
-    /// By tile, and by the polygon's place there.
-    tiles: Vec<Items<[u32; LANDMARKS]>>,
+    /// By tile, and by the polygon's place there. Landmarks of meshes that differ in a few tiles share the rows of the others.
+    tiles: Rows,
 }
 
 impl Model for Landmarks {
@@ -39,7 +41,7 @@ impl Model for Landmarks {
 
     ghost Value = { Heights };
 
-    ghost view = { λ a. a.tiles.items };
+    ghost view = { λ a. a.tiles };
 }
 
 impl Landmarks {
@@ -48,7 +50,7 @@ impl Landmarks {
         ensures { result ≡ heights_at self.now at }
     {
         match self.tiles.get(at.tile as usize) {
-            Some(rows) => heights_in(rows.as_slice(), at.index as usize),
+            Some(rows) => heights_in(rows.get().as_slice(), at.index as usize),
             None => FLAT,
         }
     }
@@ -116,9 +118,40 @@ pub fn landmarks_of(alloc: Global, mesh: &Mesh) -> Result<Landmarks, AllocError>
     if are_gentle(mesh, &marks) {
         Ok(marks)
     } else {
-        Ok(Landmarks {
-            tiles: Vec::new(alloc),
-        })
+        let tiles = Chunks::from_vec(alloc, Vec::new(alloc))?;
+        Ok(Landmarks { tiles })
+    }
+}
+
+/// Landmarks of a mesh in which some tiles were replaced, made of those that it had before. All rows of heights are shared with them but those
+/// of the new tiles and of polygons that are too high or too low beside these. None where these are too many, where there were no landmarks,
+/// or where the heights fail the test. Only memory can be refused.
+pub fn kept_landmarks(
+    alloc: Global,
+    old: &Landmarks,
+    mesh: &Mesh,
+    news: &[TileNo],
+) -> Result<Option<Landmarks>, AllocError>
+    requires sound { IsSound mesh.now }
+    requires setting { IsSetting mesh.now.setting }
+    ensures { IfOk result (λ kept. IfSome kept (AreLandmarks mesh.now)) }
+{
+    match keep(alloc, &old.tiles, mesh, news)? {
+        Some(tiles) => Ok(tested(mesh, Landmarks { tiles })),
+        None => Ok(None),
+    }
+}
+
+/// Landmarks, if they are some of the mesh.
+fn tested(mesh: &Mesh, marks: Landmarks) -> Option<Landmarks>
+    requires sound { IsSound mesh.now }
+    requires setting { IsSetting mesh.now.setting }
+    ensures { IfSome result (AreLandmarks mesh.now) }
+{
+    if are_gentle(mesh, &marks) {
+        Some(marks)
+    } else {
+        None
     }
 }
 

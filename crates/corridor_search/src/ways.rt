@@ -2,8 +2,8 @@
 
 ghost use Rattle.std.specs.Prelude.{◌<◌, length};
 
-use crate::weights::root;
-use mesh_types::{Extent, Mesh, PolyRef};
+use crate::weights::{extent_at, root};
+use mesh_types::{Extent, Mesh, PolyRef, TileMesh};
 use nav_ground::Setting;
 use std::alloc::{AllocError, Global};
 
@@ -38,6 +38,47 @@ impl FlatArcs {
             ways.add_tile(mesh, &level, tile)?;
         }
         Ok(ways)
+    }
+
+    /// The ways inside a tile, by the places of its polygons.
+    pub(crate) fn inside(alloc: Global, mesh: &Mesh, tile: usize) -> Result<Self, AllocError> {
+        let mut ways = FlatArcs {
+            starts: Vec::new(alloc),
+            ways: Vec::new(alloc),
+            heaviest: 0,
+        };
+        ways.starts.push(0)?;
+        if let Some(tile) = mesh.tiles.get(tile) {
+            let tile = tile.get();
+            for index in 0..tile.polys.len() {
+                ways.add_inside(&mesh.setting, tile, index)?;
+            }
+        }
+        Ok(ways)
+    }
+
+    /// Adds the ways from a polygon of a tile to others there.
+    fn add_inside(
+        &mut self,
+        setting: &Setting,
+        tile: &TileMesh,
+        index: usize,
+    ) -> Result<(), AllocError>
+        requires { index < length tile.now.polys }
+    {
+        let left = spot_of(setting, tile.polys.extent(index));
+        for polygon in tile.links.entered_from(low_half(index)) {
+            let place = polygon.index as usize;
+            if place < tile.polys.len() {
+                let weight = lesser_weight(left, spot_of(setting, tile.polys.extent(place)));
+                self.ways.push(FlatArc {
+                    to: polygon.index,
+                    weight,
+                })?;
+            }
+        }
+        self.starts.push(low_half(self.ways.len()))?;
+        Ok(())
     }
 
     /// Adds the ways from the polygons of a tile.
@@ -162,7 +203,7 @@ fn spot_of(setting: &Setting, extent: Extent) -> FlatVertex {
 }
 
 /// The lowest 32 bits of a number.
-fn low_half(number: usize) -> u32 {
+pub(crate) fn low_half(number: usize) -> u32 {
     (number % 4294967296) as u32
 }
 
@@ -172,6 +213,14 @@ pub(crate) fn number_at(numbers: &[u32], place: usize) -> u32 {
         Some(number) => *number,
         None => 0,
     }
+}
+
+/// What a link between two polygons of a mesh weighs at the lesser of the costs of their areas.
+pub(crate) fn weight_between(mesh: &Mesh, left: PolyRef, entered: PolyRef) -> u32 {
+    lesser_weight(
+        spot_of(&mesh.setting, extent_at(mesh, left)),
+        spot_of(&mesh.setting, extent_at(mesh, entered)),
+    )
 }
 
 /// What a link between two polygons weighs at the lesser of the costs of their areas.

@@ -1,22 +1,17 @@
 //! The question whether a kept path still leads on, and its answers.
 
-ghost use Rattle.std.specs.Prelude.{◌≡◌, ◌<◌, IfOk, length};
+ghost use Rattle.std.specs.Prelude.{IfOk};
 ghost use Rattle.nav_ground.specs.Limits.{IsSetting};
-ghost use Rattle.mesh_types.specs.Chains.{IsChain};
-ghost use Rattle.mesh_types.specs.Right.{portals_of};
 ghost use Rattle.mesh_types.specs.Soundness.{IsSound};
-ghost use Rattle.mesh_types.specs.Taut.{IsTaut};
-ghost use Rattle.funnel_path.specs.Coordinates.{HasChainCoordinates};
 ghost use Rattle.kept_paths.specs.KeptPaths.{CanCheck, IsBeginning, IsChecked};
 
 use crate::beginnings::{beginning, holds_at};
 use crate::leads::lead_from;
 use crate::weights::cost;
-use funnel_path::pull;
-use mesh_types::{Asked, Corner, Link, Mesh, PolyRef, Portal};
+use mesh_types::{Asked, Corner, Link, Mesh, PolyRef};
 use nav_base::Point;
 use nav_lists::Items;
-use path_queries::Filter;
+use path_queries::{Filter, turns};
 use std::alloc::{AllocError, Global};
 
 /// A path that is kept: where its walker is now, its goal, the filter by which it was found, the polygon in which the walker was last, and
@@ -108,23 +103,4 @@ impl Asked for KeptPath {
     fn ask(&self, alloc: Global, mesh: &Mesh) -> Result<CheckAnswer, AllocError> {
         check(alloc, mesh, self)
     }
-}
-
-/// The corners of a taut line from one place to another through the portals of links.
-fn turns(alloc: Global, from: Point, links: &[Link], to: Point) -> Result<Items<Corner>, AllocError>
-    requires chain { IsChain from (portals_of links.now) to }
-    requires few { length (portals_of links.now) < 4294967295 }
-    requires coordinates { HasChainCoordinates from (portals_of links.now) to }
-    ensures { IfOk result (λ turns. IsTaut from (portals_of links.now) to turns) }
-{
-    let portals = portals(alloc, links)?;
-    let turns = pull(alloc, from, portals.as_slice(), to)?;
-    Ok(Items::from_vec(turns))
-}
-
-/// The portals of links, in order.
-fn portals(alloc: Global, links: &[Link]) -> Result<Vec<Portal>, AllocError>
-    ensures { IfOk result (λ portals. portals.items ≡ portals_of links.now) }
-{
-    links.iter().map(|link| link.portal).collect(alloc)
 }

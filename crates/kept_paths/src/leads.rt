@@ -1,6 +1,6 @@
 //! The links as which kept links lead on. The links that leave a polygon.
 
-ghost use Rattle.std.specs.Prelude.{◌≡◌, ◌↔◌, ◌<◌, IfOk, IfSome, IfNone, IsTrue, Contains, Some, length};
+ghost use Rattle.std.specs.Prelude.{◌≡◌, ◌↔◌, IfOk, IfSome, IfNone, IsTrue, Contains, Some, length};
 ghost use Rattle.mesh_types.specs.declared.links.Link as references;
 ghost use Rattle.mesh_types.specs.Corridors.{IsLinkOf};
 ghost use Rattle.mesh_types.specs.Soundness.{IsSound};
@@ -11,6 +11,7 @@ ghost use Rattle.kept_paths.specs.KeptPaths.{IsThrough, LeadOn, LeadsOn};
 use mesh_types::{Link, Mesh, PolyRef, Portal, poly};
 use nav_base::Point;
 use nav_lists::Items;
+use path_queries::is_open;
 use std::alloc::{AllocError, Global};
 
 /// How far kept links lead on: the links as which they do, and the polygon to which those lead.
@@ -102,16 +103,8 @@ fn enters(mesh: &Mesh, areas: u64, link: &Link) -> bool
     }
 }
 
-/// Whether an area is open.
-fn is_open(areas: u64, area: u32) -> bool
-    requires { area < 64 }
-    ensures { result ≡ Rattle.path_queries.specs.Filters.is_open areas area }
-{
-    (areas >> area) & 1 == 1
-}
-
 /// Whether a link is one of the mesh that leaves a polygon.
-pub(crate) fn leaves(mesh: &Mesh, at: PolyRef, link: &Link) -> bool
+pub fn leaves(mesh: &Mesh, at: PolyRef, link: &Link) -> bool
     requires sound { IsSound mesh.now }
     ensures { IsTrue result ↔ (IsLinkOf mesh.now link.now × (link.now.from ≡ at)) }
 {

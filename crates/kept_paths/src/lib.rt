@@ -14,3 +14,4 @@ mod leads;
 mod weights;
 
 pub use checks::{CheckAnswer, KeptPath, check};
+pub use leads::leaves;

@@ -1,19 +1,15 @@
 //! What links cost through a filter.
 
-ghost use Rattle.std.specs.Prelude.{◌≡◌, ◌<◌, ◌*◌, All, length, max, slice_index};
-ghost use Rattle.nav_base.specs.Distance.{distance_of};
-ghost use Rattle.nav_base.specs.Point.{IsInField};
-ghost use Rattle.nav_ground.specs.Limits.{IsArea, IsSetting};
+ghost use Rattle.std.specs.Prelude.{◌≡◌, ◌<◌, All, length};
+ghost use Rattle.nav_ground.specs.Limits.{IsSetting};
 ghost use Rattle.mesh_types.specs.Corridors.{IsLinkOf, cost_of, weight_of};
 ghost use Rattle.mesh_types.specs.Soundness.{IsSound};
-ghost use Rattle.corridor_search.specs.Estimates.{IsBox, middle_of};
 ghost use Rattle.path_queries.specs.Filters.{AreCosts, IsFilter, priced, with_costs};
 
-use corridor_search::{distance, extent_at, middle};
-use mesh_types::{Extent, Link, Mesh};
-use nav_base::Point;
+use corridor_search::{extent_at, middle};
+use mesh_types::{Link, Mesh};
 use nav_ground::AREAS;
-use path_queries::Filter;
+use path_queries::{Filter, step_cost};
 
 /// What links cost together, as a filter prices the mesh.
 pub(crate) fn cost(mesh: &Mesh, filter: &Filter, links: &[Link]) -> u64
@@ -56,16 +52,4 @@ fn weight(mesh: &Mesh, costs: &[u32; AREAS], link: &Link) -> u64
     let from = middle(extent_at(mesh, link.from));
     let entered = extent_at(mesh, link.to);
     step_cost(costs, from, entered)
-}
-
-/// What a step costs from a point into a polygon with an extent.
-fn step_cost(costs: &[u32; AREAS], from: Point, to: Extent) -> u64
-    requires costs { AreCosts costs.now }
-    requires from { IsInField from }
-    requires to { IsBox to }
-    requires area { IsArea to.area }
-    ensures { result ≡ max 1 (distance_of from (middle_of to)) * slice_index costs.now to.area }
-{
-    let length = distance(from, middle(to)).max(1);
-    u64::from(length) * u64::from(costs[to.area as usize])
 }

@@ -6,7 +6,7 @@ use Rattle.mesh_input.specs.Slopes.{IsGentle, IsUpper, IsFlatEnough, shadow_x, s
 use Rattle.mesh_input.specs.declared.slope.Slope.{Slope}
 use Rattle.mesh_input.specs.declared.slope.Edge.{Edge}
 
-flat_at : (slope : Slope) (a b c d e f : ℕ) → a ≡ d → b ≡ e → c ≡ f → IsFlatEnough slope a b c → IsFlatEnough slope d e f
+pub flat_at : (slope : Slope) (a b c d e f : ℕ) → a ≡ d → b ≡ e → c ≡ f → IsFlatEnough slope a b c → IsFlatEnough slope d e f
 flat_at slope a b c d e f p q r h = subst (IsFlatEnough slope d e) r (subst (λ (n : ℕ). IsFlatEnough slope d n c) q (subst (λ (n : ℕ). IsFlatEnough slope n b c) p h))
 
 module _ (slope : Slope) (p q : Edge) where

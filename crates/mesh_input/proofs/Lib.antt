@@ -1,2 +1,5 @@
 pub mod Products
 pub mod GentleLaws
+pub mod AxisLaws
+pub mod WalkLaws
+pub mod AddLaws

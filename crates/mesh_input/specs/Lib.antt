@@ -1,1 +1,5 @@
 pub mod Slopes
+pub mod Axes
+pub mod Meshes
+pub mod Triangles
+pub mod Adding

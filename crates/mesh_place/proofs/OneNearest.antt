@@ -1,5 +1,5 @@
 -- One answer alone is right, and it tells a place of the mesh.
-use Rattle.std.proofs.Common.{◌≡◌, ℕ, ℤ, ◌<◌, length, refl, sym, ap, subst, ◌∙◌}
+use Rattle.std.proofs.Common.{◌≡◌, ℕ, ℤ, ◌<◌, ◌/◌, refl, sym, ap, subst, ◌∙◌}
 use Rattle.std.specs.Prelude.{◌≢◌, Option, Some, None}
 use Rattle.std.specs.Ordering.{nat_cmp, int_cmp, ordering_then, ordering_reverse}
 use Rattle.std.specs.declared.cmp.Ordering.{Ordering}
@@ -12,13 +12,15 @@ use Rattle.mesh_types.specs.declared.storeys.MeshPlace.{MeshPlace}
 use Rattle.mesh_types.specs.LinkOrder.{poly_cmp, point_cmp}
 use Rattle.mesh_types.specs.Places.{IsPlace, Stands}
 use Rattle.mesh_types.specs.Soundness.{IsSound}
-use Rattle.mesh_types.proofs.MeshPolygons.{placed}
+use Rattle.nav_ground.specs.Limits.{IsSetting}
+use Rattle.nav_ground.specs.Tiling.{tiles_in_row, tile_rows}
 use Rattle.mesh_place.specs.declared.near.Near.{Near}
 use Rattle.mesh_place.specs.declared.near.NearAnswer.{NearAnswer}
 use Rattle.mesh_place.specs.declared.near.NearAnswer.TheVariants.{Nearest, NoneInReach}
 use Rattle.mesh_place.specs.Nearest.{place_cmp, IsNearest, IsRightNear, TellsPlace}
 use Rattle.mesh_place.specs.Searches.{IsFoundAmong}
 use Rattle.mesh_place.proofs.SearchLaws.{place_total}
+use Rattle.mesh_place.proofs.TileRows.{tile_of}
 
 place_of : (mesh : Mesh) (place : MeshPlace) → Stands mesh place → IsPlace mesh place
 place_of mesh place stands = record { held = stands.held; storey = stands.storey; home = stands.home; aside = 0; floor = stands.floor }
@@ -82,19 +84,22 @@ one_only mesh asked NoneInReach right NoneInReach right' = refl
 
 -- ---- what all tiles give
 
-pub right_place : (mesh : Mesh) (asked : Near) (best : Option MeshPlace) (place : MeshPlace) → IsSound mesh
-    → IsFoundAmong mesh asked None best (λ (other : MeshPlace). other.polygon.tile < length mesh.tiles) → best ≡ Some place → IsNearest mesh asked place
-right_place mesh asked best place sound found is =
-    let own = subst (λ (o : Option MeshPlace). IsFoundAmong mesh asked None o (λ (other : MeshPlace). other.polygon.tile < length mesh.tiles)) is found in
+pub right_place : (mesh : Mesh) (asked : Near) (best : Option MeshPlace) (place : MeshPlace) → IsSound mesh → IsSetting mesh.setting
+    → IsFoundAmong mesh asked None best (λ (other : MeshPlace). other.polygon.tile / tiles_in_row mesh.setting < tile_rows mesh.setting) → best ≡ Some place
+    → IsNearest mesh asked place
+right_place mesh asked best place sound setting found is =
+    let own = subst (λ (o : Option MeshPlace). IsFoundAmong mesh asked None o
+    (λ (other : MeshPlace). other.polygon.tile / tiles_in_row mesh.setting < tile_rows mesh.setting)) is found in
     record {
       stands = own.found.0;
       reach = own.found.1;
-      first = λ other stands near. own.all other stands near (placed mesh other.polygon stands.held.polygon sound stands.held.there).tile_rules.within;
+      first = λ other stands near. own.all other stands near (tile_of mesh other sound setting stands).row;
     }
 
-pub right_none : (mesh : Mesh) (asked : Near) (best : Option MeshPlace) → IsSound mesh
-    → IsFoundAmong mesh asked None best (λ (other : MeshPlace). other.polygon.tile < length mesh.tiles) → best ≡ None
+pub right_none : (mesh : Mesh) (asked : Near) (best : Option MeshPlace) → IsSound mesh → IsSetting mesh.setting
+    → IsFoundAmong mesh asked None best (λ (other : MeshPlace). other.polygon.tile / tiles_in_row mesh.setting < tile_rows mesh.setting) → best ≡ None
     → IsRightNear mesh asked NoneInReach
-right_none mesh asked best sound found is =
-    let own = subst (λ (o : Option MeshPlace). IsFoundAmong mesh asked None o (λ (other : MeshPlace). other.polygon.tile < length mesh.tiles)) is found in
-    λ other stands near. own.all other stands near (placed mesh other.polygon stands.held.polygon sound stands.held.there).tile_rules.within
+right_none mesh asked best sound setting found is =
+    let own = subst (λ (o : Option MeshPlace). IsFoundAmong mesh asked None o
+    (λ (other : MeshPlace). other.polygon.tile / tiles_in_row mesh.setting < tile_rows mesh.setting)) is found in
+    λ other stands near. own.all other stands near (tile_of mesh other sound setting stands).row

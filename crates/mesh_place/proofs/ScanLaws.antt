@@ -1,8 +1,9 @@
--- The scan of a cell, of a row, of a storey, of a polygon: what is looked at is all that can be in reach.
-use Rattle.std.proofs.Common.{◌≡◌, ℕ, ◌+◌, ◌-◌, ◌*◌, ◌≤◌, ◌<◌, pos, ◌≤ℤ◌, ◌⊎◌, inl, inr, true, false, List, [], length, get_or, refl, sym, ap, subst, ◌∙◌, arith}
-use Rattle.std.specs.Prelude.{All, Some, None, min, max, slice_get}
+-- The scan of a cell, of a row, of a storey, of a polygon: what is looked at is all that can be nearer than what was found.
+use Rattle.std.proofs.Common.{◌≡◌, ℕ, ◌+◌, ◌-◌, ◌*◌, ◌≤◌, ◌<◌, pos, ◌≤ℤ◌, ◌-ℤ◌, ℤ, ◌⊎◌, inl, inr, true, false, List, [], length, get_or, refl, sym, ap, subst, ◌∙◌, arith}
+use Rattle.std.specs.Prelude.{All, Some, None, min, max, slice_get, unsigned_abs}
 use Rattle.std.proofs.lemmas.Bool.{cases_lt, true≢false}
 use Rattle.std.proofs.lemmas.Int.{ints, by_lt_z}
+use Rattle.std.proofs.lemmas.Nat.{mul-le}
 use Rattle.std.proofs.lemmas.Option.{same_Some, none-some, slice_get_read, slice_get_within, get_or_from_slice_get, slice_get-get_or}
 use Rattle.nav_base.specs.declared.point.Point.{Point}
 use Rattle.nav_base.specs.Point.{from_to}
@@ -21,132 +22,210 @@ use Rattle.mesh_types.specs.Places.{Stands, column_gap, storey_at}
 use Rattle.mesh_types.specs.Storeys.{HasFloor, IsFloorRow}
 use Rattle.mesh_types.specs.WholeMesh.{poly_at}
 use Rattle.mesh_locate.specs.Nearest.{IsInBox}
-use Rattle.mesh_locate.proofs.Reached.{box_there, held_in_box}
+use Rattle.mesh_locate.proofs.Reached.{held_in_box}
 use Rattle.mesh_place.specs.declared.near.Near.{Near}
-use Rattle.mesh_place.specs.declared.scan.Around.{Around}
-use Rattle.mesh_place.specs.declared.scan.NearCell.{NearCell}
-use Rattle.mesh_place.specs.declared.scan.PolygonPart.{PolygonPart}
+use Rattle.mesh_place.specs.declared.cells.NearCell.{NearCell}
+use Rattle.mesh_place.specs.declared.lines.LineSpan.{LineSpan}
+use Rattle.mesh_place.specs.declared.storey_scan.Around.{Around}
+use Rattle.mesh_place.specs.declared.storey_scan.NearSearch.{NearSearch}
+use Rattle.mesh_place.specs.declared.storey_scan.PolygonPart.{PolygonPart}
+use Rattle.mesh_place.specs.Lines.{IsInSpan, IsItOrFarther, IsNearestOf, IsPartOf, point_on}
 use Rattle.mesh_place.specs.Nearest.{IsInReach, is_open}
-use Rattle.mesh_place.specs.Searches.{IsHeightNear, IsCellOf, IsOverCell, IsInLine, IsInLines, IsInRow, IsInRows, IsRowOf, Touches, around_of, place_over, point_at, IsPart}
-use Rattle.mesh_place.proofs.Squares.{over_column, gap_of_point, among_columns, within, box_touches}
+use Rattle.mesh_place.specs.Searches.{IsHeightNear, IsCellOf, IsOverCell, IsLinePoint, IsHeldOnLine, IsOnLine, IsInLines, IsInRow, IsInRows, IsRowOf, IsSearch, IsWithin}
+use Rattle.mesh_place.specs.Searches.{IsPart, box_gap, columns_of, place_over, rows_of}
+use Rattle.mesh_place.proofs.SearchLaws.{IsLed}
+use Rattle.mesh_place.proofs.Squares.{over_column, among_columns, box_least, farther_across, farther_along, farther_both, gap_of_point}
 
--- ---- a point
+-- ---- a cell
 
 -- a point over a cell makes a place that stands, where the polygon holds it
-pub stands_over : (mesh : Mesh) (asked : Near) (cell : NearCell) (point : Point) → IsCellOf mesh asked cell → 0 ≡ column_gap cell.x cell.z point
-    → Holds cell.polygon point → Stands mesh (place_over cell point)
-stands_over mesh asked cell point is over holds = record {
-  held = record { polygon = cell.polygon; there = is.there; holds = holds };
-  storey = is.storey;
-  home = is.home;
-  floor = record { x = cell.x; z = cell.z; has = is.has; gap = over; nearest = λ x z y has. omega arith };
+pub stands_over : (mesh : Mesh) (asked : Near) (part : PolygonPart) (cell : NearCell) (point : Point) → IsPart mesh asked part → IsCellOf mesh part cell
+    → 0 ≡ column_gap cell.x cell.z point → Holds part.polygon point → Stands mesh (place_over part cell point)
+stands_over mesh asked part cell point is of over holds = record {
+  held = record { polygon = part.polygon; there = is.there; holds = holds };
+  storey = of.storey;
+  home = of.home;
+  floor = record { x = cell.x; z = cell.z; has = of.has; gap = over; nearest = λ x z y has. omega arith };
 }
 
-pub reach_over : (mesh : Mesh) (asked : Near) (cell : NearCell) (point : Point) → IsCellOf mesh asked cell → IsHeightNear asked cell.y
-    → square_of (from_to asked.point point) ≤ asked.reach * asked.reach → IsInReach mesh asked (place_over cell point)
-reach_over mesh asked cell point is near flat = record {
-  flat = flat;
+pub reach_over : (mesh : Mesh) (search : NearSearch) (part : PolygonPart) (cell : NearCell) (point : Point) → IsPart mesh search.asked part
+    → IsSearch search → IsHeightNear search.asked cell.y → IsWithin search point → IsInReach mesh search.asked (place_over part cell point)
+reach_over mesh search part cell point is rules near within = record {
+  flat = omega (arith, within, mul-le search.reach search.reach search.asked.reach search.asked.reach rules.reach rules.reach);
   low = near.low;
   high = near.high;
-  polygon = cell.polygon;
+  polygon = part.polygon;
   there = is.there;
   area = is.area;
 }
 
--- a place over a cell where the polygon does not hold the point does not stand
-pub not_held : (mesh : Mesh) (asked : Near) (cell : NearCell) (point : Point) → IsCellOf mesh asked cell → (Holds cell.polygon point → ⊥)
-    → (other : MeshPlace) → Stands mesh other → other ≡ place_over cell point → ⊥
-not_held mesh asked cell point is never other stands same =
-    let own : Stands mesh (place_over cell point) = subst (Stands mesh) same stands in
-    let one = same_Some own.held.polygon cell.polygon (sym own.held.there ∙ is.there) in
-    never (subst (λ (p : Polygon). Holds p point) one own.held.holds)
+-- a polygon holds the places that stand in it
+pub holds_it : (mesh : Mesh) (asked : Near) (part : PolygonPart) (other : MeshPlace) → IsPart mesh asked part → Stands mesh other → other.polygon ≡ part.at
+    → Holds part.polygon other.point
+holds_it mesh asked part other is stands at =
+    let same = same_Some stands.held.polygon part.polygon (sym stands.held.there ∙ ap (poly_at mesh) at ∙ is.there) in
+    subst (λ (p : Polygon). Holds p other.point) same stands.held.holds
 
-pub not_flat : (mesh : Mesh) (asked : Near) (cell : NearCell) (point : Point) → (square_of (from_to asked.point point) ≤ asked.reach * asked.reach → ⊥)
-    → (other : MeshPlace) → IsInReach mesh asked other → other ≡ place_over cell point → ⊥
-not_flat mesh asked cell point far other near same =
-    let own : IsInReach mesh asked (place_over cell point) = subst (IsInReach mesh asked) same near in
-    far own.flat
+-- the place at the nearest point leads all over the cell that have the point's property
+pub led_over : (mesh : Mesh) (asked : Near) (part : PolygonPart) (cell : NearCell) (point : Point) (P : Point → Type 0) (among : MeshPlace → Type 0)
+    → IsNearestOf P asked.point point → ((other : MeshPlace) → Stands mesh other → among other → IsOverCell part cell other × P other.point)
+    → IsLed mesh asked (place_over part cell point) among
+led_over mesh asked part cell point P among nearest over other stands one =
+    let is = over other stands one in
+    let polygon = is.0.polygon in
+    let y = is.0.y in
+    elim (nearest other.point is.1) [
+      | inl same ↦ inl (λ i. record { polygon = polygon i; point = same i; y = y i })
+      | inr far ↦ inr (y, far)
+    ]
 
--- ---- a line
+-- the nearest place of a line
+pub line_nearest : (cell : NearCell) (p : Point) (z near : ℕ) (span : LineSpan) (P : Point → Type 0) → ((x : ℕ) → IsInSpan span x → IsItOrFarther p.x near x)
+    → ((q : Point) (m : ℕ) → P q → q.x ≡ pos m → 16 * cell.x ≤ m → m ≤ 16 * cell.x + 16 → IsInSpan span m)
+    → ((q : Point) → P q → IsLinePoint cell (pos z) q) → IsNearestOf P p (point_on near z)
+line_nearest cell p z near span P nearest inside on q one =
+    let line = on q one in
+    let over = over_column cell.x cell.z q line.over in
+    let x = over.across.is in
+    let along = line.on in
+    elim (nearest over.across.m (inside q over.across.m one x over.across.left over.across.right)) [
+      | inl same ↦
+          let across = x ∙ ap pos same in
+          inl (λ i. record { x = across i; z = along i })
+      | inr far ↦ inr (farther_across p (point_on near z) q (subst (λ (n : ℤ). unsigned_abs (pos near -ℤ p.x) < unsigned_abs (n -ℤ p.x)) (sym x) far) (sym along))
+    ]
 
--- the places of a line before the next point
-pub next_point : (cell : NearCell) (line k : ℕ) (point : Point) (other : MeshPlace) → point ≡ point_at cell k line → IsInLine cell line (k + 1) other
-    → IsInLine cell line k other ⊎ (other ≡ place_over cell point)
-next_point cell line k point other made one =
-    by_lt_z other.point.x (pos (16 * cell.x + k)) (λ less. inl (record { over = one.over; on = one.on; before = less })) (λ least. inr (same least))
-  where
-    across : pos (16 * cell.x + k) ≤ℤ other.point.x → other.point.x ≡ pos (16 * cell.x + k)
-    across least =
-        let over = over_column cell.x cell.z other.point one.over.over in
-        let m = over.across.m in
-        let low : 16 * cell.x + k ≤ m = omega (arith, ints, least, over.across.is) in
-        let high : m < 16 * cell.x + (k + 1) = omega (arith, ints, one.before, over.across.is) in
-        let same : m ≡ 16 * cell.x + k = omega (arith, low, high) in
-        over.across.is ∙ ap pos same
+-- a point of a line lies over the cell
+pub over_point : (cell : NearCell) (x z : ℕ) → IsInSpan (columns_of cell) x → 16 * cell.z ≤ z → z ≤ 16 * cell.z + 16 → 0 ≡ column_gap cell.x cell.z (point_on x z)
+over_point cell x z inside low high =
+    let first = inside.first in
+    let last = inside.last in
+    let i : 16 * cell.x + (x - 16 * cell.x) ≡ x = omega (arith, first) in
+    let j : 16 * cell.z + (z - 16 * cell.z) ≡ z = omega (arith, low) in
+    subst (λ (m : ℕ). 0 ≡ column_gap cell.x cell.z (point_on m z)) i
+    (subst (λ (m : ℕ). 0 ≡ column_gap cell.x cell.z (point_on (16 * cell.x + (x - 16 * cell.x)) m)) j
+    (gap_of_point cell.x cell.z (x - 16 * cell.x) (z - 16 * cell.z) (omega (arith, first, last)) (omega (arith, low, high))))
 
-    same : pos (16 * cell.x + k) ≤ℤ other.point.x → other ≡ place_over cell point
-    same least =
-        let on = across least in
-        let along = one.on in
-        let at : other.point ≡ point = (λ i. record { x = on i; z = along i }) ∙ sym made in
-        λ i. record { polygon = one.over.polygon i; point = at i; y = one.over.y i }
+-- the nearest point of a line leads all places on it
+pub led_line : (mesh : Mesh) (asked : Near) (part : PolygonPart) (cell : NearCell) (z near : ℕ) (span : LineSpan) (point : Point) → span ≡ columns_of cell
+    → ((x : ℕ) → IsInSpan span x → IsItOrFarther asked.point.x near x) → point ≡ point_on near z
+    → IsLed mesh asked (place_over part cell point) (IsOnLine part cell (pos z))
+led_line mesh asked part cell z near span point whole nearest made =
+    led_over mesh asked part cell point (IsLinePoint cell (pos z)) (IsOnLine part cell (pos z))
+    (subst (IsNearestOf (IsLinePoint cell (pos z)) asked.point) (sym made)
+    (line_nearest cell asked.point z near span (IsLinePoint cell (pos z)) nearest
+    (λ q m one x low high. subst (λ (s : LineSpan). IsInSpan s m) (sym whole) (record { first = low; last = high })) (λ q one. one)))
+    (λ other stands one. (one.over, record { over = one.over.over; on = one.on }))
 
--- none comes before the first point, and all before the last
-pub no_point : (cell : NearCell) (line : ℕ) (other : MeshPlace) → IsInLine cell line 0 other → ⊥
-no_point cell line other one =
+-- and that of the part that the polygon holds is the nearest that it holds
+module _ (part : PolygonPart) (cell : NearCell) (z : ℕ) (span held : LineSpan) (whole : span ≡ columns_of cell)
+    (is : IsPartOf (λ x. Holds part.polygon (point_on x z)) span held) where
+  pub held_nearest : (p : Point) (near : ℕ) (point : Point) → ((x : ℕ) → IsInSpan held x → IsItOrFarther p.x near x) → point ≡ point_on near z
+      → IsNearestOf (IsHeldOnLine part cell point.z) p point
+  held_nearest p near point nearest made =
+      subst (λ (a : Point). IsNearestOf (IsHeldOnLine part cell a.z) p a) (sym made)
+      (line_nearest cell p z near held (IsHeldOnLine part cell (pos z)) nearest
+      (λ q m one x low high.
+      let on = one.point.on in
+      let at : q ≡ point_on m z = λ i. record { x = x i; z = on i } in
+      is.all m (subst (λ (s : LineSpan). IsInSpan s m) (sym whole) (record { first = low; last = high })) (subst (Holds part.polygon) at one.holds))
+      (λ q one. one.point))
+
+  pub held_there : (near : ℕ) (point : Point) → IsInSpan held near → point ≡ point_on near z → 16 * cell.z ≤ z → z ≤ 16 * cell.z + 16
+      → IsHeldOnLine part cell point.z point
+  held_there near point inside made low high =
+      let first = inside.first in
+      let last = inside.last in
+      let own : IsInSpan span near = record { first = omega (arith, first, is.begins); last = omega (arith, last, is.ends) } in
+      subst (λ (a : Point). IsHeldOnLine part cell a.z a) (sym made)
+      (record {
+        point = record { over = over_point cell near z (subst (λ (s : LineSpan). IsInSpan s near) whole own) low high; on = refl };
+        holds = is.are near inside;
+      })
+
+-- where the polygon holds no point of the line, no place on it stands
+pub none_held : (mesh : Mesh) (asked : Near) (part : PolygonPart) (cell : NearCell) (z : ℕ) (span : LineSpan) → IsPart mesh asked part
+    → span ≡ columns_of cell → ((x : ℕ) → IsInSpan span x → Holds part.polygon (point_on x z) → ⊥) → (other : MeshPlace) → Stands mesh other
+    → IsOnLine part cell (pos z) other → ⊥
+none_held mesh asked part cell z span is whole none other stands one =
     let over = over_column cell.x cell.z other.point one.over.over in
-    let high : over.across.m < 16 * cell.x + 0 = omega (arith, ints, one.before, over.across.is) in
-    omega (arith, high, over.across.left)
+    let x = over.across.is in
+    let on = one.on in
+    let at : other.point ≡ point_on over.across.m z = λ i. record { x = x i; z = on i } in
+    none over.across.m (subst (λ (s : LineSpan). IsInSpan s over.across.m) (sym whole) (record { first = over.across.left; last = over.across.right }))
+    (subst (Holds part.polygon) at (holds_it mesh asked part other is stands one.over.polygon))
 
--- ---- a cell
+-- the nearest point over a cell
+pub cell_nearest : (cell : NearCell) (p : Point) (x z : ℕ) → ((m : ℕ) → IsInSpan (columns_of cell) m → IsItOrFarther p.x x m)
+    → ((m : ℕ) → IsInSpan (rows_of cell) m → IsItOrFarther p.z z m) → IsNearestOf (λ q. 0 ≡ column_gap cell.x cell.z q) p (point_on x z)
+cell_nearest cell p x z across along q one =
+    let over = over_column cell.x cell.z q one in
+    let at = over.across.is in
+    let at' = over.along.is in
+    let near = across over.across.m (record { first = over.across.left; last = over.across.right }) in
+    let near' = along over.along.m (record { first = over.along.left; last = over.along.right }) in
+    elim near [
+      | inl same ↦
+          elim near' [
+            | inl same' ↦
+                let qx = at ∙ ap pos same in
+                let qz = at' ∙ ap pos same' in
+                inl (λ i. record { x = qx i; z = qz i })
+            | inr far' ↦
+                inr (farther_along p (point_on x z) q (sym (at ∙ ap pos same))
+                (subst (λ (n : ℤ). unsigned_abs (pos z -ℤ p.z) < unsigned_abs (n -ℤ p.z)) (sym at') far'))
+          ]
+      | inr far ↦
+          inr (farther_both p (point_on x z) q (subst (λ (n : ℤ). unsigned_abs (pos x -ℤ p.x) < unsigned_abs (n -ℤ p.x)) (sym at) far)
+          (subst (λ (n : ℤ). unsigned_abs (pos z -ℤ p.z) ≤ unsigned_abs (n -ℤ p.z)) (sym at') (no_nearer z over.along.m near')))
+    ]
+  where
+    no_nearer : (n m : ℕ) → IsItOrFarther p.z n m → unsigned_abs (pos n -ℤ p.z) ≤ unsigned_abs (pos m -ℤ p.z)
+    no_nearer n m (inl same) = subst (λ (k : ℕ). unsigned_abs (pos n -ℤ p.z) ≤ unsigned_abs (pos k -ℤ p.z)) (sym same) (omega arith)
+    no_nearer n m (inr far) = omega (arith, far)
 
-pub next_line : (cell : NearCell) (line : ℕ) (other : MeshPlace) → IsInLines cell (line + 1) other → IsInLines cell line other ⊎ IsInLine cell line 17 other
-next_line cell line other one =
+-- ---- the lines of a cell
+
+pub next_line : (part : PolygonPart) (cell : NearCell) (line : ℕ) (other : MeshPlace) → IsInLines part cell (line + 1) other
+    → IsInLines part cell line other ⊎ IsOnLine part cell (pos (16 * cell.z + line)) other
+next_line part cell line other one =
     by_lt_z other.point.z (pos (16 * cell.z + line)) (λ less. inl (record { over = one.over; before = less })) (λ least. inr (here least))
   where
-    here : pos (16 * cell.z + line) ≤ℤ other.point.z → IsInLine cell line 17 other
+    here : pos (16 * cell.z + line) ≤ℤ other.point.z → IsOnLine part cell (pos (16 * cell.z + line)) other
     here least =
         let over = over_column cell.x cell.z other.point one.over.over in
         let low : 16 * cell.z + line ≤ over.along.m = omega (arith, ints, least, over.along.is) in
         let high : over.along.m < 16 * cell.z + (line + 1) = omega (arith, ints, one.before, over.along.is) in
         let same : over.along.m ≡ 16 * cell.z + line = omega (arith, low, high) in
-        let right = over.across.right in
-        record { over = one.over; on = over.along.is ∙ ap pos same; before = omega (arith, ints, right, over.across.is) }
+        record { over = one.over; on = over.along.is ∙ ap pos same }
 
-pub no_line : (cell : NearCell) (other : MeshPlace) → IsInLines cell 0 other → ⊥
-no_line cell other one =
+pub no_line : (part : PolygonPart) (cell : NearCell) (other : MeshPlace) → IsInLines part cell 0 other → ⊥
+no_line part cell other one =
     let over = over_column cell.x cell.z other.point one.over.over in
     let high : over.along.m < 16 * cell.z + 0 = omega (arith, ints, one.before, over.along.is) in
     omega (arith, high, over.along.left)
 
-pub all_lines : (cell : NearCell) (other : MeshPlace) → IsOverCell cell other → IsInLines cell 17 other
-all_lines cell other one =
+pub all_lines : (part : PolygonPart) (cell : NearCell) (other : MeshPlace) → IsOverCell part cell other → IsInLines part cell 17 other
+all_lines part cell other one =
     let over = over_column cell.x cell.z other.point one.over in
     let top = over.along.right in
     record { over = one; before = omega (arith, ints, top, over.along.is) }
 
 -- a place over a cell whose floor is not in reach in height is not in reach
-pub not_near : (mesh : Mesh) (asked : Near) (cell : NearCell) → (IsHeightNear asked cell.y → ⊥) → (other : MeshPlace) → IsInReach mesh asked other
-    → IsOverCell cell other → ⊥
-not_near mesh asked cell never other near one =
+pub not_near : (mesh : Mesh) (asked : Near) (part : PolygonPart) (cell : NearCell) → (IsHeightNear asked cell.y → ⊥) → (other : MeshPlace)
+    → IsInReach mesh asked other → IsOverCell part cell other → ⊥
+not_near mesh asked part cell never other near one =
     never (subst (IsHeightNear asked) one.y (record { low = near.low; high = near.high }))
-
-pub over_point : (cell : NearCell) (k line : ℕ) (point : Point) → point ≡ point_at cell k line → k ≤ 16 → line ≤ 16 → 0 ≡ column_gap cell.x cell.z point
-over_point cell k line point made few few' =
-    subst (λ (p : Point). 0 ≡ column_gap cell.x cell.z p) (sym made) (gap_of_point cell.x cell.z k line few few')
 
 -- ---- a row
 
 pub cell_of : (mesh : Mesh) (asked : Near) (part : PolygonPart) (row : FloorRow) (z x y : ℕ) → IsPart mesh asked part → IsRowOf mesh part.at row z
     → IsFloorRow row → z < 1024 → row.x0 ≤ x → x < row.x0 + length row.floors → y ≡ get_or row.floors (x - row.x0) 0
-    → IsCellOf mesh asked (record { at = part.at; polygon = part.polygon; x = x; z = z; y = y })
+    → IsCellOf mesh part (record { x = x; z = z; y = y })
 cell_of mesh asked part row z x y is of rules inside left right value =
     let within : x - row.x0 < length row.floors = omega (arith, left, right) in
     let most = rules.right in
     record {
-      there = is.there;
-      rules = is.rules;
-      area = is.area;
       storey = of.storey;
       home = of.home;
       has = record {
@@ -161,22 +240,22 @@ cell_of mesh asked part row z x y is of rules inside left right value =
       along = inside;
     }
 
-pub before_columns : (mesh : Mesh) (asked : Near) (around : Around) (row : FloorRow) (at : PolyRef) (z first : ℕ) → around ≡ around_of asked
-    → first ≤ max row.x0 around.columns.first → (other : MeshPlace) → IsInReach mesh asked other → IsInRow row at z first other → ⊥
-before_columns mesh asked around row at z first is begins other near one =
-    let columns = ap (λ (a : Around). a.columns.first) is in
-    let among = (among_columns one.x z asked.point other.point asked.reach one.over near.flat).0 in
+pub before_columns : (search : NearSearch) (row : FloorRow) (at : PolyRef) (z first : ℕ) → IsSearch search
+    → first ≤ max row.x0 search.around.columns.first → (other : MeshPlace) → IsWithin search other.point → IsInRow row at z first other → ⊥
+before_columns search row at z first rules begins other within one =
+    let columns = ap (λ (a : Around). a.columns.first) rules.around in
+    let among = (among_columns one.x z search.asked.point other.point search.reach one.over within).0 in
     let right = one.right in
     let before = one.before in
     let least = among.first in
     omega (arith, columns, begins, right, before, least)
 
-pub after_columns : (mesh : Mesh) (asked : Near) (around : Around) (row : FloorRow) (at : PolyRef) (z end x : ℕ) → around ≡ around_of asked
-    → end ≡ min (row.x0 + length row.floors) (around.columns.last + 1) → end ≤ x → (other : MeshPlace) → IsInReach mesh asked other
+pub after_columns : (search : NearSearch) (row : FloorRow) (at : PolyRef) (z end x : ℕ) → IsSearch search
+    → end ≡ min (row.x0 + length row.floors) (search.around.columns.last + 1) → end ≤ x → (other : MeshPlace) → IsWithin search other.point
     → IsInRow row at z (row.x0 + length row.floors) other → IsInRow row at z x other
-after_columns mesh asked around row at z end x is ends past other near one =
-    let columns = ap (λ (a : Around). a.columns.last) is in
-    let among = (among_columns one.x z asked.point other.point asked.reach one.over near.flat).0 in
+after_columns search row at z end x rules ends past other within one =
+    let columns = ap (λ (a : Around). a.columns.last) rules.around in
+    let among = (among_columns one.x z search.asked.point other.point search.reach one.over within).0 in
     let most = among.last in
     let before = one.before in
     record {
@@ -188,9 +267,9 @@ after_columns mesh asked around row at z end x is ends past other near one =
       before = omega (arith, columns, ends, past, most, before);
     }
 
-pub next_column : (row : FloorRow) (cell : NearCell) (other : MeshPlace) → cell.y ≡ get_or row.floors (cell.x - row.x0) 0
-    → IsInRow row cell.at cell.z (cell.x + 1) other → IsInRow row cell.at cell.z cell.x other ⊎ IsOverCell cell other
-next_column row cell other value one =
+pub next_column : (row : FloorRow) (part : PolygonPart) (cell : NearCell) (other : MeshPlace) → cell.y ≡ get_or row.floors (cell.x - row.x0) 0
+    → IsInRow row part.at cell.z (cell.x + 1) other → IsInRow row part.at cell.z cell.x other ⊎ IsOverCell part cell other
+next_column row part cell other value one =
     elim (cases_lt one.x cell.x) [
       | inl less ↦ inl (record { polygon = one.polygon; x = one.x; right = one.right; is_cell = one.is_cell; over = one.over; before = less })
       | inr least ↦
@@ -206,26 +285,26 @@ next_column row cell other value one =
 
 -- ---- a storey
 
-pub before_rows : (mesh : Mesh) (asked : Near) (around : Around) (storey : Storey) (at : PolyRef) (first : ℕ) → around ≡ around_of asked
-    → first ≤ max storey.z0 around.rows.first → (other : MeshPlace) → IsInReach mesh asked other → IsInRows storey at first other → ⊥
-before_rows mesh asked around storey at first is begins other near one =
-    let rows = ap (λ (a : Around). a.rows.first) is in
-    let among = (among_columns one.x one.z asked.point other.point asked.reach one.over near.flat).1 in
+pub before_rows : (search : NearSearch) (storey : Storey) (at : PolyRef) (first : ℕ) → IsSearch search
+    → first ≤ max storey.z0 search.around.rows.first → (other : MeshPlace) → IsWithin search other.point → IsInRows storey at first other → ⊥
+before_rows search storey at first rules begins other within one =
+    let rows = ap (λ (a : Around). a.rows.first) rules.around in
+    let among = (among_columns one.x one.z search.asked.point other.point search.reach one.over within).1 in
     let has = one.has in
     let above = has.above in
     let before = one.before in
     let least = among.first in
     omega (arith, rows, begins, above, before, least)
 
-pub after_rows : (mesh : Mesh) (asked : Near) (around : Around) (storey : Storey) (at : PolyRef) (end z : ℕ) → around ≡ around_of asked
-    → storey_at mesh at ≡ Some storey → end ≡ min (storey.z0 + length storey.rows) (around.rows.last + 1) → end ≤ z → (other : MeshPlace)
-    → Stands mesh other → IsInReach mesh asked other → other.polygon ≡ at → IsInRows storey at z other
-after_rows mesh asked around storey at end z is home ends past other stands near one =
-    let rows = ap (λ (a : Around). a.rows.last) is in
+pub after_rows : (mesh : Mesh) (search : NearSearch) (storey : Storey) (at : PolyRef) (end z : ℕ) → IsSearch search
+    → storey_at mesh at ≡ Some storey → end ≡ min (storey.z0 + length storey.rows) (search.around.rows.last + 1) → end ≤ z → (other : MeshPlace)
+    → Stands mesh other → IsWithin search other.point → other.polygon ≡ at → IsInRows storey at z other
+after_rows mesh search storey at end z rules home ends past other stands within one =
+    let rows = ap (λ (a : Around). a.rows.last) rules.around in
     let same : stands.storey ≡ storey = same_Some stands.storey storey (sym stands.home ∙ ap (storey_at mesh) one ∙ home) in
     let floor = stands.floor in
     let has : HasFloor storey floor.x floor.z other.y = subst (λ (s : Storey). HasFloor s floor.x floor.z other.y) same floor.has in
-    let among = (among_columns floor.x floor.z asked.point other.point asked.reach floor.gap near.flat).1 in
+    let among = (among_columns floor.x floor.z search.asked.point other.point search.reach floor.gap within).1 in
     let most = among.last in
     let above = has.above in
     let within = slice_get_within storey.rows (floor.z - storey.z0) has.row has.is_row in
@@ -275,22 +354,18 @@ module _ (polygons : List Polygon) (k : ℕ) (e : Extent) (are : (d : Polygon) �
       let own = (rules k no_polygon there).area in
       omega (arith, own, ap (λ (x : Extent). x.area) (are no_polygon))
 
-pub not_touched : (mesh : Mesh) (asked : Near) (around : Around) (polygons : List Polygon) (at : PolyRef) (e : Extent)
+pub far_box : (mesh : Mesh) (asked : Near) (polygons : List Polygon) (at : PolyRef) (e : Extent)
     → poly_at mesh at ≡ slice_get polygons at.index → ((d : Polygon) → e ≡ extent_of (get_or polygons at.index d)) → All IsPolygon polygons
-    → at.index < length polygons → around ≡ around_of asked → (Touches e around → ⊥) → (other : MeshPlace) → Stands mesh other
-    → IsInReach mesh asked other → other.polygon ≡ at → ⊥
-not_touched mesh asked around polygons at e listed are rules there is never other stands near one =
+    → at.index < length polygons → (other : MeshPlace) → Stands mesh other → other.polygon ≡ at
+    → box_gap e asked.point ≤ square_of (from_to asked.point other.point)
+far_box mesh asked polygons at e listed are rules there other stands one =
     let held = stands.held in
     let read : slice_get polygons at.index ≡ Some held.polygon = sym listed ∙ ap (poly_at mesh) (sym one) ∙ held.there in
     let same : get_or polygons at.index held.polygon ≡ held.polygon = get_or_from_slice_get polygons at.index held.polygon held.polygon read in
     let own : IsPolygon held.polygon = subst IsPolygon same (rules at.index held.polygon there) in
     let box : IsInBox e other.point =
     subst (λ (x : Extent). IsInBox x other.point) (sym (are held.polygon ∙ ap extent_of same)) (held_in_box held.polygon other.point own held.holds) in
-    let cells = box_there polygons at.index e are rules there in
-    let near' = within asked.point other.point asked.reach near.flat in
-    let x = box_touches e.low.x e.high.x asked.point.x other.point.x asked.reach cells.low.left box.low.across box.high.across near'.across in
-    let z = box_touches e.low.z e.high.z asked.point.z other.point.z asked.reach cells.low.bottom box.low.along box.high.along near'.along in
-    never (subst (Touches e) (sym is) (record { begins = x.0; ends = x.1 }, record { begins = z.0; ends = z.1 }))
+    box_least e asked.point other.point box
 
 pub not_open : (mesh : Mesh) (asked : Near) (polygons : List Polygon) (at : PolyRef) (e : Extent) → poly_at mesh at ≡ slice_get polygons at.index
     → ((d : Polygon) → e ≡ extent_of (get_or polygons at.index d)) → is_open asked.areas e.area ≡ false → (other : MeshPlace)

@@ -1,25 +1,27 @@
 -- What a search has found, one more place at a time.
-use Rattle.std.proofs.Common.{◌≡◌, ℕ, ◌≤◌, ◌<◌, true, false, ◌⊎◌, inl, inr, refl, sym, ap, subst, ◌∙◌, arith}
-use Rattle.std.specs.Prelude.{◌≢◌, Option, Some, None, IfSome}
+use Rattle.std.proofs.Common.{◌≡◌, ℕ, ◌+◌, ◌-◌, ◌*◌, ◌≤◌, ◌<◌, true, false, ◌⊎◌, inl, inr, refl, sym, ap, subst, ◌∙◌, arith}
+use Rattle.std.specs.Prelude.{◌≢◌, max, Option, Some, None, IfSome}
 use Rattle.std.specs.Ordering.{is_lt, nat_cmp, ordering_then, ordering_reverse, on}
 use Rattle.std.specs.declared.cmp.Ordering.{Ordering}
 use Rattle.std.specs.declared.cmp.Ordering.TheVariants.{Less, Equal, Greater}
-use Rattle.std.specs.Cmp.{IsTotalOrder}
-use Rattle.std.proofs.lemmas.Bool.{true≢false}
+use Rattle.std.specs.Cmp.{IsTotalOrder, nat_cmp_is}
+use Rattle.std.proofs.lemmas.Bool.{true≢false, cases_lt}
 use Rattle.std.proofs.lemmas.Cmp.{then_total, on_total, nat_cmp_total, ranked}
+use Rattle.nav_base.specs.Deviation.{square_of}
+use Rattle.nav_base.specs.Point.{from_to}
 use Rattle.mesh_types.specs.declared.links.PolyRef.{PolyRef}
 use Rattle.mesh_types.specs.declared.mesh.Mesh.{Mesh}
 use Rattle.mesh_types.specs.declared.storeys.MeshPlace.{MeshPlace}
 use Rattle.mesh_types.specs.LinkOrder.{poly_cmp}
-use Rattle.mesh_types.specs.Places.{Stands, column_gap}
+use Rattle.mesh_types.specs.Places.{Stands}
 use Rattle.mesh_types.specs.Soundness.{IsSound}
 use Rattle.mesh_types.proofs.HeldPoints.{held_coordinates}
 use Rattle.mesh_types.proofs.MeshPolygons.{placed}
 use Rattle.mesh_types.proofs.LinkOrderLaws.{point_total}
 use Rattle.mesh_place.specs.declared.near.Near.{Near}
+use Rattle.mesh_place.specs.declared.storey_scan.NearSearch.{NearSearch}
 use Rattle.mesh_place.specs.Nearest.{IsInReach, off_by, measure, place_cmp}
-use Rattle.mesh_place.specs.Searches.{IsFound, IsNotBefore, comes_before, IsFoundAmong, IsMeasurable, limit_of}
-use Rattle.mesh_place.proofs.Squares.{gap_least}
+use Rattle.mesh_place.specs.Searches.{IsFound, IsNotBefore, comes_before, IsFoundAmong, IsMeasurable, IsFoundNear, limit_of}
 
 -- ---- the order of places
 
@@ -136,14 +138,139 @@ pub found_measurable : (mesh : Mesh) (asked : Near) (best : Option MeshPlace) �
 found_measurable mesh asked None sound found = tt
 found_measurable mesh asked (Some place) sound found = measurable mesh asked place sound found.0 found.1
 
--- a cell beyond the limit has no place that comes before what was found
-pub beyond_limit : (mesh : Mesh) (asked : Near) (best : Option MeshPlace) (x z : ℕ) (other : MeshPlace)
-    → limit_of mesh.setting.agent.climb asked best < column_gap x z asked.point → 0 ≡ column_gap x z other.point → IsInReach mesh asked other
+-- a place that is farther than the limit does not come before what was found
+pub beyond : (mesh : Mesh) (asked : Near) (best : Option MeshPlace) (gap : ℕ) (other : MeshPlace)
+    → limit_of mesh.setting.agent.climb asked best < gap → gap ≤ square_of (from_to asked.point other.point) → IsInReach mesh asked other
     → IsNotBefore mesh.setting.agent.climb asked other best
-beyond_limit mesh asked None x z other far over near =
-    absurd (omega (arith, far, near.flat, gap_least x z asked.point other.point over))
-beyond_limit mesh asked (Some best) x z other far over near =
+beyond mesh asked None gap other far least near = absurd (omega (arith, far, near.flat, least))
+beyond mesh asked (Some best) gap other far least near =
     λ less.
     let climb : ℕ = mesh.setting.agent.climb in
     let most = no_greater (measure climb asked other) (measure climb asked best) _ less in
-    omega (arith, far, near.flat, gap_least x z asked.point other.point over, most)
+    omega (arith, far, near.flat, least, most)
+
+-- what was looked at within a reach, beyond which nothing comes before what was found, is all
+pub no_more : (mesh : Mesh) (asked : Near) (old new : Option MeshPlace) (reach : ℕ) (among : MeshPlace → Type 0)
+    → limit_of mesh.setting.agent.climb asked new ≤ reach * reach
+    → IsFoundAmong mesh asked old new (λ place. among place × (square_of (from_to asked.point place.point) ≤ reach * reach))
+    → IsFoundAmong mesh asked old new among
+no_more mesh asked old new reach among enough is = record {
+  found = is.found;
+  kept = is.kept;
+  all = λ other stands near one.
+      elim (cases_lt (reach * reach) (square_of (from_to asked.point other.point))) [
+        | inl far ↦ beyond mesh asked new (square_of (from_to asked.point other.point)) other (omega (arith, enough, far)) (omega arith) near
+        | inr close ↦ is.all other stands near (one, close)
+      ];
+}
+
+-- no greater reach is left than there was
+pub no_less : (mesh : Mesh) (asked : Near) (old new : Option MeshPlace) (reach : ℕ) (among : MeshPlace → Type 0)
+    → limit_of mesh.setting.agent.climb asked old ≤ reach * reach
+    → IsFoundAmong mesh asked old new (λ place. among place × (square_of (from_to asked.point place.point) ≤ reach * reach))
+    → IsFoundAmong mesh asked old new among
+no_less mesh asked old new reach among enough is = record {
+  found = is.found;
+  kept = is.kept;
+  all = λ other stands near one.
+      elim (cases_lt (reach * reach) (square_of (from_to asked.point other.point))) [
+        | inl far ↦
+            is.kept other (beyond mesh asked old (square_of (from_to asked.point other.point)) other (omega (arith, enough, far)) (omega arith) near)
+        | inr close ↦ is.all other stands near (one, close)
+      ];
+}
+
+-- ---- a place that leads others: each of them is it, or farther at the same height
+
+-- of two places of one height the nearer has the lesser measure
+abbrev IsFarther : Near → MeshPlace → MeshPlace → Type 0
+IsFarther asked a b = (b.y ≡ a.y) × (square_of (from_to asked.point a.point) < square_of (from_to asked.point b.point))
+
+lesser : (climb : ℕ) (asked : Near) (a b : MeshPlace) → IsFarther asked a b → measure climb asked a < measure climb asked b
+lesser climb asked a b far =
+    subst (λ (y : ℕ). measure climb asked a < square_of (from_to asked.point b.point) + over y * over y) (sym far.0)
+    (more_of (square_of (from_to asked.point a.point)) (square_of (from_to asked.point b.point)) (over a.y * over a.y) far.1)
+  where
+    over : ℕ → ℕ
+    over y = asked.weight * (max (y - asked.y) (asked.y - y) - climb)
+
+    more_of : (m n k : ℕ) → m < n → m + k < n + k
+    more_of m n k less = omega (arith, less)
+
+first_less : (m n : ℕ) (rest : Ordering) → m < n → ordering_then (nat_cmp m n) rest ≡ Less
+first_less m n rest less = ap (λ (o : Ordering). ordering_then o rest) (sym (nat_cmp_is m n Less less))
+
+-- what does not come after the nearer of two does not come after the other
+pub farther : (climb : ℕ) (asked : Near) (a b : MeshPlace) (best : Option MeshPlace) → IsFarther asked a b → IsNotBefore climb asked a best
+    → IsNotBefore climb asked b best
+farther climb asked a b None far not = not
+farther climb asked a b (Some best) far not =
+    λ less. not ((place_total climb asked).trans a b best (first_less (measure climb asked a) (measure climb asked b) _ (lesser climb asked a b far)) less)
+
+abbrev pub IsLed : Mesh → Near → MeshPlace → (MeshPlace → Type 0) → Type 0
+IsLed mesh asked place among = (other : MeshPlace) → Stands mesh other → among other → (other ≡ place) ⊎ IsFarther asked place other
+
+behind : (mesh : Mesh) (asked : Near) (place : MeshPlace) (among : MeshPlace → Type 0) (best : Option MeshPlace) → IsLed mesh asked place among
+    → IsNotBefore mesh.setting.agent.climb asked place best → (other : MeshPlace) → Stands mesh other → among other
+    → IsNotBefore mesh.setting.agent.climb asked other best
+behind mesh asked place among best led not other stands one =
+    elim (led other stands one) [
+      | inl same ↦ subst (λ (p : MeshPlace). IsNotBefore mesh.setting.agent.climb asked p best) (sym same) not
+      | inr far ↦ farther mesh.setting.agent.climb asked place other best far not
+    ]
+
+-- where it is not within a reach, none is
+pub led_beyond : (mesh : Mesh) (asked : Near) (place : MeshPlace) (among : MeshPlace → Type 0) (best : Option MeshPlace) (reach : ℕ)
+    → IsFound mesh asked best → IsLed mesh asked place among → (square_of (from_to asked.point place.point) ≤ reach * reach → ⊥)
+    → IsFoundAmong mesh asked best best (λ other. among other × (square_of (from_to asked.point other.point) ≤ reach * reach))
+led_beyond mesh asked place among best reach found led never =
+    passed mesh asked best (λ other. among other × (square_of (from_to asked.point other.point) ≤ reach * reach)) found
+    (λ other stands near one.
+    elim (led other stands one.0) [
+      | inl same ↦ never (subst (λ (p : MeshPlace). square_of (from_to asked.point p.point) ≤ reach * reach) same one.1)
+      | inr far ↦ never (omega (arith, far.1, one.1))
+    ])
+
+-- where it does not come before what was found, none does
+pub led_left_out : (mesh : Mesh) (asked : Near) (place : MeshPlace) (among few : MeshPlace → Type 0) (best : Option MeshPlace)
+    → ((other : MeshPlace) → few other → among other) → IsFound mesh asked best → IsLed mesh asked place among
+    → comes_before mesh.setting.agent.climb asked place best ≡ false → IsFoundAmong mesh asked best best few
+led_left_out mesh asked place among few best within found led not =
+    skipped mesh asked best few found (λ other stands near one. behind mesh asked place among best led (stays best not) other stands (within other one))
+  where
+    stays : (best : Option MeshPlace) → comes_before mesh.setting.agent.climb asked place best ≡ false → IsNotBefore mesh.setting.agent.climb asked place best
+    stays None is = absurd (true≢false is)
+    stays (Some found) is = not_less (place_cmp mesh.setting.agent.climb asked place found) is
+
+-- where it was looked at, all were
+pub led_found : (mesh : Mesh) (asked : Near) (place : MeshPlace) (among few : MeshPlace → Type 0) (old new : Option MeshPlace)
+    → ((other : MeshPlace) → few other → among other) → IsLed mesh asked place among → Stands mesh place → IsInReach mesh asked place
+    → IsFoundAmong mesh asked old new (λ other. other ≡ place) → IsFoundAmong mesh asked old new few
+led_found mesh asked place among few old new within led stands near is = record {
+  found = is.found;
+  kept = is.kept;
+  all = λ other stands' near' one. behind mesh asked place among new led (is.all place stands near refl) other stands' (within other one);
+}
+
+-- one of two kinds, within a reach
+pub either_within : {A B W : Type 0} → A ⊎ B → W → (A × W) ⊎ (B × W)
+either_within (inl one) within = inl (one, within)
+either_within (inr one) within = inr (one, within)
+
+-- no limit is more than the square of the reach
+pub limit_most : (climb : ℕ) (asked : Near) (best : Option MeshPlace) → limit_of climb asked best ≤ asked.reach * asked.reach
+limit_most climb asked None = omega arith
+limit_most climb asked (Some best) = omega arith
+
+-- what a search within a reach found, in the words of what is asked
+pub near_as : (mesh : Mesh) (search : NearSearch) (asked : Near) (reach : ℕ) (old new : Option MeshPlace) (among : MeshPlace → Type 0)
+    → search.asked ≡ asked → search.reach ≡ reach → IsFoundNear mesh search old new among
+    → IsFoundAmong mesh asked old new (λ place. among place × (square_of (from_to asked.point place.point) ≤ reach * reach))
+near_as mesh search asked reach old new among same same' is =
+    subst (λ (a : Near). IsFoundAmong mesh a old new (λ place. among place × (square_of (from_to a.point place.point) ≤ reach * reach))) same
+    (subst (λ (n : ℕ). IsFoundAmong mesh search.asked old new (λ place. among place × (square_of (from_to search.asked.point place.point) ≤ n * n))) same' is)
+
+-- what was looked at last is all that is wanted
+pub after_more : (mesh : Mesh) (asked : Near) (a b c : Option MeshPlace) (first next : MeshPlace → Type 0) → IsFoundAmong mesh asked a b first
+    → IsFoundAmong mesh asked b c next → IsFoundAmong mesh asked a c next
+after_more mesh asked a b c first next left right = more mesh asked a b c first next next left right (λ other stands near one. inr one)

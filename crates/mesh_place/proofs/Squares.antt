@@ -3,15 +3,18 @@ use Rattle.std.proofs.Common.{◌≡◌, ℕ, ◌+◌, ◌*◌, ◌-◌, ◌≤�
 use Rattle.std.specs.Prelude.{max, unsigned_abs}
 use Rattle.std.specs.Int.{int_max}
 use Rattle.std.proofs.lemmas.Bool.{cases_lt}
-use Rattle.std.proofs.lemmas.Int.{ints}
+use Rattle.std.proofs.lemmas.Int.{ints, clamps}
 use Rattle.std.proofs.lemmas.Nat.{mul-lt, mul-le}
 use Rattle.nav_base.specs.declared.point.Point.{Point}
 use Rattle.nav_base.specs.Point.{from_to, dot_of}
 use Rattle.nav_base.specs.Deviation.{square_of}
 use Rattle.nav_base.proofs.LengthLaws.{square-absolute}
-use Rattle.mesh_types.specs.Places.{column_gap}
+use Rattle.mesh_types.specs.declared.extent.Extent.{Extent}
+use Rattle.mesh_types.specs.Places.{column_gap, outside}
+use Rattle.mesh_locate.specs.Nearest.{IsInBox}
 use Rattle.mesh_place.specs.declared.columns.ColumnRange.{ColumnRange}
-use Rattle.mesh_place.specs.Columns.{column_out, columns_around}
+use Rattle.mesh_place.specs.Columns.{column_out, columns_around, over_by}
+use Rattle.mesh_place.specs.Searches.{box_gap}
 use Rattle.mesh_place.proofs.Spans.{size_right, size_left, out_right, out_left}
 
 pub square_parts : (v : Point) → square_of v ≡ unsigned_abs v.x * unsigned_abs v.x + unsigned_abs v.z * unsigned_abs v.z
@@ -121,15 +124,15 @@ within p q reach flat =
     let parts = square_parts (from_to p q) in
     record { across = root_below a reach (b * b) (omega (arith, flat, parts)); along = root_below b reach (a * a) (omega (arith, flat, parts)) }
 
-size_bounds : (n : ℤ) (r : ℕ) → unsigned_abs n ≤ r → (n ≤ℤ pos r) × (pos 0 ≤ℤ (n +ℤ pos r))
+pub size_bounds : (n : ℤ) (r : ℕ) → unsigned_abs n ≤ r → (n ≤ℤ pos r) × (pos 0 ≤ℤ (n +ℤ pos r))
 size_bounds (pos a) r most = (omega (arith, ints, most), omega (arith, ints, most))
 size_bounds (negsuc k) r most = (omega (arith, ints), omega (arith, ints, most))
 
-clamp_most : (n : ℤ) (m : ℕ) → n ≤ℤ pos m → unsigned_abs (int_max n (pos 0)) ≤ m
+pub clamp_most : (n : ℤ) (m : ℕ) → n ≤ℤ pos m → unsigned_abs (int_max n (pos 0)) ≤ m
 clamp_most (pos a) m most = omega (arith, ints, most, size_right a)
 clamp_most (negsuc k) m most = omega (arith, size_left k)
 
-clamp_least : (n : ℤ) (m : ℕ) → pos m ≤ℤ n → m ≤ unsigned_abs (int_max n (pos 0))
+pub clamp_least : (n : ℤ) (m : ℕ) → pos m ≤ℤ n → m ≤ unsigned_abs (int_max n (pos 0))
 clamp_least (pos a) m least = omega (arith, ints, least, size_right a)
 clamp_least (negsuc k) m least = absurd (omega (arith, ints, least))
 
@@ -154,18 +157,54 @@ among_columns x z p q reach none flat =
       reached z over.along.m p.z reach (subst (λ (n : ℤ). unsigned_abs (n -ℤ p.z) ≤ reach) over.along.is near.along) over.along.left over.along.right,
     )
 
--- a box that holds such a point touches them
-pub box_touches : (low high p q : ℤ) (reach : ℕ) → pos 0 ≤ℤ low → (pos 16 *ℤ low) ≤ℤ q → q ≤ℤ (pos 16 *ℤ high) → unsigned_abs (q -ℤ p) ≤ reach
-    → (low ≤ℤ pos (columns_around p reach).last) × (pos (columns_around p reach).first ≤ℤ high)
-box_touches (negsuc l) high p q reach least begins ends near = absurd (omega (arith, ints, least))
-box_touches (pos l) (negsuc h) p q reach least begins ends near = absurd (omega (arith, ints, least, begins, ends))
-box_touches (pos l) (pos h) p (negsuc k) reach least begins ends near = absurd (omega (arith, ints, begins))
-box_touches (pos l) (pos h) p (pos m) reach least begins ends near =
-    let bounds = size_bounds (pos m -ℤ p) reach near in
-    let low = clamp_most (p -ℤ pos reach) m (omega (arith, ints, bounds.0)) in
-    let high = clamp_least (p +ℤ pos reach) m (omega (arith, ints, bounds.1)) in
-    let left : 16 * l ≤ m = omega (arith, ints, begins) in
-    let right : m ≤ 16 * h = omega (arith, ints, ends) in
-    let first : (columns_around p reach).first ≤ h = omega (arith, low, right) in
-    let last : l ≤ (columns_around p reach).last = omega (arith, high, left) in
-    (omega (arith, ints, last), omega (arith, ints, first))
+-- a point of a box is no nearer than the box
+outside_least : (low high p q : ℤ) → low ≤ℤ q → q ≤ℤ high → outside low high p ≤ unsigned_abs (q -ℤ p)
+outside_least low high p q begins ends = omega (arith, ints, clamps, begins, ends)
+
+pub outside_parts : (low high p : ℤ) → outside low high p ≡ max (over_by p low) (over_by high p)
+outside_parts low high p = omega (arith, ints, clamps)
+
+pub box_least : (box : Extent) (p q : Point) → IsInBox box q → box_gap box p ≤ square_of (from_to p q)
+box_least box p q is =
+    let a = outside (pos 16 *ℤ box.low.x) (pos 16 *ℤ box.high.x) p.x in
+    let b = outside (pos 16 *ℤ box.low.z) (pos 16 *ℤ box.high.z) p.z in
+    let across : a ≤ unsigned_abs (q.x -ℤ p.x) = outside_least (pos 16 *ℤ box.low.x) (pos 16 *ℤ box.high.x) p.x q.x is.low.across is.high.across in
+    let along : b ≤ unsigned_abs (q.z -ℤ p.z) = outside_least (pos 16 *ℤ box.low.z) (pos 16 *ℤ box.high.z) p.z q.z is.low.along is.high.along in
+    omega (
+      arith,
+      square_parts (from_to p q),
+      mul-le a a (unsigned_abs (q.x -ℤ p.x)) (unsigned_abs (q.x -ℤ p.x)) across across,
+      mul-le b b (unsigned_abs (q.z -ℤ p.z)) (unsigned_abs (q.z -ℤ p.z)) along along,
+    )
+
+-- ---- which of two points is farther
+
+more_square : (a b : ℕ) → a < b → a * a < b * b
+more_square a b less = mul-lt a a b b less less
+
+pub farther_both : (p a b : Point) → unsigned_abs (a.x -ℤ p.x) < unsigned_abs (b.x -ℤ p.x) → unsigned_abs (a.z -ℤ p.z) ≤ unsigned_abs (b.z -ℤ p.z)
+    → square_of (from_to p a) < square_of (from_to p b)
+farther_both p a b across along =
+    omega (
+      arith,
+      square_parts (from_to p a),
+      square_parts (from_to p b),
+      more_square (unsigned_abs (a.x -ℤ p.x)) (unsigned_abs (b.x -ℤ p.x)) across,
+      mul-le (unsigned_abs (a.z -ℤ p.z)) (unsigned_abs (a.z -ℤ p.z)) (unsigned_abs (b.z -ℤ p.z)) (unsigned_abs (b.z -ℤ p.z)) along along,
+    )
+
+pub farther_across : (p a b : Point) → unsigned_abs (a.x -ℤ p.x) < unsigned_abs (b.x -ℤ p.x) → a.z ≡ b.z → square_of (from_to p a) < square_of (from_to p b)
+farther_across p a b across same =
+    farther_both p a b across (subst (λ (n : ℤ). unsigned_abs (a.z -ℤ p.z) ≤ unsigned_abs (n -ℤ p.z)) same (omega arith))
+
+pub farther_along : (p a b : Point) → a.x ≡ b.x → unsigned_abs (a.z -ℤ p.z) < unsigned_abs (b.z -ℤ p.z) → square_of (from_to p a) < square_of (from_to p b)
+farther_along p a b same along =
+    let across : unsigned_abs (a.x -ℤ p.x) ≤ unsigned_abs (b.x -ℤ p.x) =
+    subst (λ (n : ℤ). unsigned_abs (a.x -ℤ p.x) ≤ unsigned_abs (n -ℤ p.x)) same (omega arith) in
+    omega (
+      arith,
+      square_parts (from_to p a),
+      square_parts (from_to p b),
+      more_square (unsigned_abs (a.z -ℤ p.z)) (unsigned_abs (b.z -ℤ p.z)) along,
+      mul-le (unsigned_abs (a.x -ℤ p.x)) (unsigned_abs (a.x -ℤ p.x)) (unsigned_abs (b.x -ℤ p.x)) (unsigned_abs (b.x -ℤ p.x)) across across,
+    )

@@ -4,6 +4,10 @@ use Rattle.std.specs.Int.{int_max}
 use Rattle.mesh_types.specs.Places.{outside}
 use Rattle.mesh_place.specs.declared.columns.ColumnRange.{ColumnRange}
 
+-- how far a number lies above another; 0 where it does not
+abbrev pub over_by : ℤ → ℤ → ℕ
+over_by a b = unsigned_abs (int_max (pos 0) (b -ℤ a))
+
 -- how far a coordinate, in sixteenths, lies outside a column
 abbrev pub column_out : ℕ → ℤ → ℕ
 column_out place n = outside (pos (16 * place)) (pos (16 * (place + 1))) n

@@ -1,25 +1,27 @@
 -- Searches: what a search for the nearest place has found.
-use Rattle.std.specs.Prelude.{◌≡◌, ◌≢◌, ℕ, ◌+◌, ◌-◌, ◌*◌, ◌<◌, ◌≤◌, pos, ◌≤ℤ◌, ◌<ℤ◌, min, Bool, true, IsTrue, Option, Some, None, slice_get}
+use Rattle.std.specs.Prelude.{◌≡◌, ◌≢◌, ℕ, ◌+◌, ◌-◌, ◌*◌, ◌<◌, ◌≤◌, ℤ, pos, ◌*ℤ◌, ◌<ℤ◌, min, Bool, true, IsTrue, Option, Some, None, slice_get}
 use Rattle.std.specs.Ordering.{is_lt}
 use Rattle.std.specs.declared.cmp.Ordering.TheVariants.{Less}
 use Rattle.nav_base.specs.declared.point.Point.{Point}
-use Rattle.nav_base.specs.Point.{HasCoordinates}
+use Rattle.nav_base.specs.Deviation.{square_of}
+use Rattle.nav_base.specs.Point.{HasCoordinates, from_to}
+use Rattle.mesh_types.specs.declared.extent.Extent.{Extent}
 use Rattle.mesh_types.specs.declared.links.PolyRef.{PolyRef}
 use Rattle.mesh_types.specs.declared.mesh.Mesh.{Mesh}
 use Rattle.mesh_types.specs.declared.storeys.FloorRow.{FloorRow}
 use Rattle.mesh_types.specs.declared.storeys.Storey.{Storey}
 use Rattle.mesh_types.specs.declared.storeys.MeshPlace.{MeshPlace}
 use Rattle.mesh_types.specs.FitTiles.{IsPolygon}
-use Rattle.mesh_types.specs.Places.{Stands, column_gap, storey_at}
+use Rattle.mesh_types.specs.Located.{Holds}
+use Rattle.mesh_types.specs.Places.{Stands, column_gap, outside, storey_at}
 use Rattle.mesh_types.specs.Storeys.{HasFloor, IsStorey}
 use Rattle.mesh_types.specs.WholeMesh.{poly_at}
-use Rattle.mesh_place.specs.declared.columns.ColumnRange.{ColumnRange}
+use Rattle.mesh_place.specs.declared.cells.NearCell.{NearCell}
+use Rattle.mesh_place.specs.declared.lines.LineSpan.{LineSpan}
 use Rattle.mesh_place.specs.declared.near.Near.{Near}
-use Rattle.mesh_place.specs.declared.scan.NearCell.{NearCell}
-use Rattle.mesh_types.specs.declared.extent.Extent.{Extent}
-use Rattle.mesh_place.specs.declared.scan.Around.{Around}
-use Rattle.mesh_place.specs.declared.scan.NearSearch.{NearSearch}
-use Rattle.mesh_place.specs.declared.scan.PolygonPart.{PolygonPart}
+use Rattle.mesh_place.specs.declared.storey_scan.Around.{Around}
+use Rattle.mesh_place.specs.declared.storey_scan.NearSearch.{NearSearch}
+use Rattle.mesh_place.specs.declared.storey_scan.PolygonPart.{PolygonPart}
 use Rattle.mesh_place.specs.Columns.{columns_around}
 use Rattle.mesh_place.specs.Nearest.{CanAskNear, IsInReach, is_open, measure, place_cmp}
 
@@ -57,31 +59,35 @@ pub record IsMeasurable (asked : Near) (place : MeshPlace) : Type 0 where
   pub point : HasCoordinates place.point
   pub near : IsHeightNear asked place.y
 
--- the columns and rows within reach of what is asked
-abbrev pub around_of : Near → Around
-around_of asked = record { columns = columns_around asked.point.x asked.reach; rows = columns_around asked.point.z asked.reach }
-
--- what is sought, with the columns and rows within its reach
-pub record IsSearch (search : NearSearch) : Type 0 where
-  pub asked : CanAskNear search.asked
-  pub around : search.around ≡ around_of search.asked
-
--- a box of whole cells touches columns, and rows
-pub record IsAcross (box : Extent) (columns : ColumnRange) : Type 0 where
-  pub begins : box.low.x ≤ℤ pos columns.last
-  pub ends : pos columns.first ≤ℤ box.high.x
-
-pub record IsAlong (box : Extent) (rows : ColumnRange) : Type 0 where
-  pub begins : box.low.z ≤ℤ pos rows.last
-  pub ends : pos rows.first ≤ℤ box.high.z
-
-abbrev pub Touches : Extent → Around → Type 0
-Touches box around = IsAcross box around.columns × IsAlong box around.rows
-
 -- no place farther from the point is looked for: the square of the reach, and the measure of what was found if that is less
 abbrev pub limit_of : ℕ → Near → Option MeshPlace → ℕ
 limit_of climb asked None = asked.reach * asked.reach
 limit_of climb asked (Some best) = min (asked.reach * asked.reach) (measure climb asked best)
+
+-- the square of how far a point, in sixteenths, lies outside a box of whole cells
+abbrev pub box_gap : Extent → Point → ℕ
+box_gap box p =
+    let dx = outside (pos 16 *ℤ box.low.x) (pos 16 *ℤ box.high.x) p.x in
+    let dz = outside (pos 16 *ℤ box.low.z) (pos 16 *ℤ box.high.z) p.z in
+    dx * dx + dz * dz
+
+-- the columns and rows within a reach of a point
+abbrev pub around_of : Point → ℕ → Around
+around_of p reach = record { columns = columns_around p.x reach; rows = columns_around p.z reach }
+
+-- a search within a reach that is no greater than what is asked, with the columns and rows within it
+pub record IsSearch (search : NearSearch) : Type 0 where
+  pub asked : CanAskNear search.asked
+  pub reach : search.reach ≤ search.asked.reach
+  pub around : search.around ≡ around_of search.asked.point search.reach
+
+-- a point within the reach of a search
+abbrev pub IsWithin : NearSearch → Point → Type 0
+IsWithin search point = square_of (from_to search.asked.point point) ≤ search.reach * search.reach
+
+-- what is found after those of some places were looked at that are within the reach of a search
+abbrev pub IsFoundNear : Mesh → NearSearch → Option MeshPlace → Option MeshPlace → (MeshPlace → Type 0) → Type 0
+IsFoundNear mesh search old new among = IsFoundAmong mesh search.asked old new (λ place. among place × IsWithin search place.point)
 
 -- a polygon of an open area
 pub record IsPart (mesh : Mesh) (asked : Near) (part : PolygonPart) : Type 0 where
@@ -97,39 +103,48 @@ pub record IsRowOf (mesh : Mesh) (at : PolyRef) (row : FloorRow) (z : ℕ) : Typ
   pub above : storey.z0 ≤ z
   pub is_row : slice_get storey.rows (z - storey.z0) ≡ Some row
 
--- a cell of the storey of a polygon of an open area
-pub record IsCellOf (mesh : Mesh) (asked : Near) (cell : NearCell) : Type 0 where
-  pub there : poly_at mesh cell.at ≡ Some cell.polygon
-  pub rules : IsPolygon cell.polygon
-  pub area : IsTrue (is_open asked.areas cell.polygon.area)
+-- a cell of the storey of a polygon
+pub record IsCellOf (mesh : Mesh) (part : PolygonPart) (cell : NearCell) : Type 0 where
   pub storey : Storey
-  pub home : storey_at mesh cell.at ≡ Some storey
+  pub home : storey_at mesh part.at ≡ Some storey
   pub has : HasFloor storey cell.x cell.z cell.y
   pub low : cell.y ≤ 8191
   pub across : cell.x < 1024
   pub along : cell.z < 1024
 
--- a point over a cell, so many sixteenths from its corner; the place over the cell at a point
-abbrev pub point_at : NearCell → ℕ → ℕ → Point
-point_at cell k line = record { x = pos (16 * cell.x + k); z = pos (16 * cell.z + line) }
+-- the whole points over a cell, along each axis
+abbrev pub columns_of : NearCell → LineSpan
+columns_of cell = record { first = 16 * cell.x; last = 16 * cell.x + 16 }
 
-abbrev pub place_over : NearCell → Point → MeshPlace
-place_over cell point = record { polygon = cell.at; point = point; y = cell.y }
+abbrev pub rows_of : NearCell → LineSpan
+rows_of cell = record { first = 16 * cell.z; last = 16 * cell.z + 16 }
 
--- the places over a cell, those of them in the lines before one, and those of a line before a point
-pub record IsOverCell (cell : NearCell) (place : MeshPlace) : Type 0 where
-  pub polygon : place.polygon ≡ cell.at
+-- the place over a cell at a point
+abbrev pub place_over : PolygonPart → NearCell → Point → MeshPlace
+place_over part cell point = record { polygon = part.at; point = point; y = cell.y }
+
+-- the places over a cell, those of them on a line, and those on the lines before one
+pub record IsOverCell (part : PolygonPart) (cell : NearCell) (place : MeshPlace) : Type 0 where
+  pub polygon : place.polygon ≡ part.at
   pub y : place.y ≡ cell.y
   pub over : 0 ≡ column_gap cell.x cell.z place.point
 
-pub record IsInLines (cell : NearCell) (line : ℕ) (place : MeshPlace) : Type 0 where
-  pub over : IsOverCell cell place
+pub record IsOnLine (part : PolygonPart) (cell : NearCell) (z : ℤ) (place : MeshPlace) : Type 0 where
+  pub over : IsOverCell part cell place
+  pub on : place.point.z ≡ z
+
+pub record IsInLines (part : PolygonPart) (cell : NearCell) (line : ℕ) (place : MeshPlace) : Type 0 where
+  pub over : IsOverCell part cell place
   pub before : place.point.z <ℤ pos (16 * cell.z + line)
 
-pub record IsInLine (cell : NearCell) (line k : ℕ) (place : MeshPlace) : Type 0 where
-  pub over : IsOverCell cell place
-  pub on : place.point.z ≡ pos (16 * cell.z + line)
-  pub before : place.point.x <ℤ pos (16 * cell.x + k)
+-- a point of a line over a cell, and one that the polygon holds
+pub record IsLinePoint (cell : NearCell) (z : ℤ) (q : Point) : Type 0 where
+  pub over : 0 ≡ column_gap cell.x cell.z q
+  pub on : q.z ≡ z
+
+pub record IsHeldOnLine (part : PolygonPart) (cell : NearCell) (z : ℤ) (q : Point) : Type 0 where
+  pub point : IsLinePoint cell z q
+  pub holds : Holds part.polygon q
 
 -- the places of a polygon over the cells of a row before a column
 pub record IsInRow (row : FloorRow) (at : PolyRef) (z end : ℕ) (place : MeshPlace) : Type 0 where

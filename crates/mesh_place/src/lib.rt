@@ -7,12 +7,18 @@
 //! Points are in sixteenths of a cell, corners of polygons and columns in whole cells, heights in the unit of the floors.
 #![tactic(auto)]
 
+mod boxes;
+mod cells;
 mod columns;
 mod floors;
+mod guesses;
 mod heights;
+mod lines;
 mod near;
 mod nearest_place;
 mod scan;
+mod storey_scan;
+mod tiles;
 
 pub use heights::{HeightAnswer, HeightAt, height, is_place};
 pub use mesh_types::MeshPlace;

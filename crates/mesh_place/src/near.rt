@@ -137,7 +137,7 @@ pub(crate) fn square_distance(a: Point, b: Point) -> u64
 }
 
 /// How far two points are apart across.
-fn across(a: Point, b: Point) -> u64
+pub(crate) fn across(a: Point, b: Point) -> u64
     requires first { HasCoordinates a }
     requires second { HasCoordinates b }
     ensures value { result ≡ unsigned_abs (from_to a b).x }
@@ -147,7 +147,7 @@ fn across(a: Point, b: Point) -> u64
 }
 
 /// How far two points are apart along.
-fn along(a: Point, b: Point) -> u64
+pub(crate) fn along(a: Point, b: Point) -> u64
     requires first { HasCoordinates a }
     requires second { HasCoordinates b }
     ensures value { result ≡ unsigned_abs (from_to a b).z }

@@ -5,11 +5,9 @@ ghost use Rattle.nav_ground.specs.Limits.{IsSetting};
 ghost use Rattle.mesh_types.specs.Soundness.{IsSound};
 ghost use Rattle.mesh_place.specs.declared.near.NearAnswer.{NearAnswer};
 ghost use Rattle.mesh_place.specs.Nearest.{CanAskNear, IsRightNear, TellsPlace};
-ghost use Rattle.mesh_place.specs.Searches.{around_of};
 
-use crate::columns::{columns_around, rows_around};
 use crate::near::{Near, NearAnswer};
-use crate::scan::{Around, NearSearch, in_tiles};
+use crate::tiles::in_tiles;
 use mesh_types::{Asked, Mesh};
 use std::alloc::{AllocError, Global};
 
@@ -48,23 +46,8 @@ fn right_answer(mesh: &Mesh, asked: &Near) -> NearAnswer
     requires asked { CanAskNear asked.now }
     ensures { IsRightNear mesh.now asked.now result }
 {
-    let search = NearSearch {
-        asked: *asked,
-        around: around(asked),
-    };
-    match in_tiles(mesh, &search, None) {
+    match in_tiles(mesh, asked, None) {
         Some(place) => NearAnswer::Nearest(place),
         None => NearAnswer::NoneInReach,
-    }
-}
-
-/// The columns and the rows within reach.
-fn around(asked: &Near) -> Around
-    requires { CanAskNear asked.now }
-    ensures { result ≡ around_of asked.now }
-{
-    Around {
-        columns: columns_around(asked.point, asked.reach),
-        rows: rows_around(asked.point, asked.reach),
     }
 }

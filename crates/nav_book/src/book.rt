@@ -89,7 +89,7 @@ impl Book {
         let opening = Version {
             ground,
             entries: Entries::new(alloc)?,
-            mesh: level.shared_mesh()?,
+            mesh: level.prepared_mesh()?,
         };
         let (press, eyes) = pair(rt, alloc, opening, readers)?;
         Ok((press, eyes))
@@ -252,7 +252,7 @@ impl Book {
         let version = Version {
             ground: Arc::try_clone(&self.press.version().ground)?,
             entries: Entries::of(alloc, entries.as_slice())?,
-            mesh: self.level.shared_mesh()?,
+            mesh: self.level.prepared_mesh()?,
         };
         let (press, eyes) = pair(rt, alloc, version, readers)?;
         Ok((press, eyes))
@@ -278,8 +278,8 @@ impl Book {
         self.level.ask(alloc, question)
     }
 
-    /// The same, for one who asks much of a book that stands still: the 24th path question that is so asked of one published mesh prepares it
-    /// first, where memory for that is left. Only memory for the answer is refused.
+    /// The same, for one who asks much: the 24th path question that is so asked without landmarks makes some first, where memory for that is
+    /// left. Only memory for the answer is refused.
     pub fn ask_and_prepare(
         &mut self,
         alloc: Global,
@@ -296,8 +296,8 @@ impl Book {
     }
 
     /// Makes landmarks of the published mesh where there are none. They cost about as much as thirty path questions, and each later one closes a
-    /// fifth of the polygons that it would, or fewer. They go with the next publish that shows something new. Nothing that a caller sees has
-    /// changed, also where memory is refused.
+    /// fifth of the polygons that it would, or fewer. A publish keeps them where it can. Nothing that a caller sees has changed, also where
+    /// memory is refused.
     pub fn prepare(&mut self, alloc: Global) -> Result<(), AllocError>
         ensures same { self.new ≡ self.old }
     {

@@ -26,6 +26,7 @@ use mesh_types::{Answer, Asked, Mesh, TileMesh};
 use nav_base::{Question, Steps};
 use nav_ground::{Entry, Ground, Reply, Request};
 use nav_lists::{Items, Shared};
+use nav_query::PreparedMesh;
 use std::alloc::{AllocError, Global};
 use std::marker::Model;
 use std::sync::Arc;
@@ -176,18 +177,21 @@ impl Level {
         &self.queue.entries()[from..to]
     }
 
-    /// The mesh for the target, made of the published one and the tiles that were built since; the two share all others.
-    pub fn next_mesh(&self, alloc: Global) -> Result<Shared<Mesh>, AllocError>
+    /// The mesh for the target, made of the published one and the tiles that were built since; the two share all others. It has landmarks where
+    /// those of the published one can be kept, and memory for that is left.
+    pub fn next_mesh(&self, alloc: Global) -> Result<PreparedMesh, AllocError>
         requires { least_awaited self.now ≡ None }
         ensures mesh { IfOk result (λ mesh. mesh ≡ target_mesh self.now) }
         ensures sound { IfOk result IsSound }
     {
-        let mesh = replaced(alloc, self.mesh.get(), self.fresh.news())?;
-        Ok(Shared::new(alloc, mesh)?)
+        let news = self.fresh.news();
+        let mesh = replaced(alloc, self.mesh.get(), news)?;
+        let shared = Shared::new(alloc, mesh)?;
+        Ok(self.mesh.after(alloc, shared, news))
     }
 
     /// Publishes the target with its mesh. It takes no memory.
-    pub fn show(&mut self, mesh: Shared<Mesh>)
+    pub fn show(&mut self, mesh: PreparedMesh)
         requires built { least_awaited self.old ≡ None }
         requires mesh { mesh ≡ target_mesh self.old }
         requires sound { IsSound mesh }
@@ -263,8 +267,8 @@ impl Level {
         Ok((self.queue.published(), answer))
     }
 
-    /// The same, for one who asks much of a level that stands still: the 24th path question that is so asked of one published mesh prepares it
-    /// first, where memory for that is left. Only memory for the answer is refused.
+    /// The same, for one who asks much: the 24th path question that is so asked without landmarks makes some first, where memory for that is
+    /// left. Only memory for the answer is refused.
     pub fn ask_and_prepare(
         &mut self,
         alloc: Global,
@@ -282,8 +286,8 @@ impl Level {
     }
 
     /// Makes landmarks of the published mesh where there are none. They cost about as much as thirty path questions, and each later one closes a
-    /// fifth of the polygons that it would, or fewer. They go with the next publish that shows something new. Nothing that a caller sees has
-    /// changed, also where memory is refused.
+    /// fifth of the polygons that it would, or fewer. A publish keeps them where it can. Nothing that a caller sees has changed, also where
+    /// memory is refused.
     pub fn prepare(&mut self, alloc: Global) -> Result<(), AllocError>
         ensures same { self.new ≡ self.old }
     {
@@ -335,6 +339,14 @@ impl Level {
     /// A further owner of the mesh as it was last published, which stays as it is. It takes no memory; it is refused only where the count of
     /// owners has reached its end.
     pub fn shared_mesh(&self) -> Result<Shared<Mesh>, AllocError>
+        ensures value { IfOk result (λ mesh. mesh ≡ published_mesh self.now) }
+        ensures sound { IfOk result IsSound }
+    {
+        self.mesh.share_mesh()
+    }
+
+    /// The same with the landmarks of the mesh, where there are some.
+    pub(crate) fn prepared_mesh(&self) -> Result<PreparedMesh, AllocError>
         ensures value { IfOk result (λ mesh. mesh ≡ published_mesh self.now) }
         ensures sound { IfOk result IsSound }
     {

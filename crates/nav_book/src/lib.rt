@@ -10,8 +10,8 @@
 //! since all their room was taken at the opening.
 //!
 //! `level`: nothing of a level waits. `prepare` makes landmarks of the published mesh, by which path questions are answered sooner, and
-//! `ask_and_prepare` does so once there were many of them; what is answered is right either way. A publishing comes in two halves besides:
-//! `next_mesh` makes what is published next, and takes all the memory; `show` takes it over, and cannot be refused. Who shows the mesh to
+//! `ask_and_prepare` does so once there were many of them; a publish keeps them, and what is answered is right either way. A publishing
+//! comes in two halves besides: `next_mesh` makes what is published next, and takes all the memory; `show` takes it over, and cannot be refused. Who shows the mesh to
 //! others as well does so in between. `shown` keeps what is published; `settle` builds and publishes by single steps.
 //!
 //! `builds`: small builds that `step` and `settle` made last are remembered, 32 of them, for an obstacle that comes, goes and comes again,

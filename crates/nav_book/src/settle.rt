@@ -22,7 +22,7 @@ use nav_ground::{Ground, TileNo};
 use nav_lists::{Chunks, Shared};
 use std::alloc::{AllocError, Global};
 use std::sync::ledger::Ledger;
-use tile_build::build_tile;
+use tile_build::build_kept_tile;
 
 impl Level {
     /// Puts every job back, builds every tile that is awaited for the whole history, or takes a build that is remembered, with one step each, and
@@ -157,6 +157,6 @@ pub fn build_job<L: Ledger>(
     ensures step { steps.new ≡ steps.old + 1 }
 {
     let layer = &level.layers.as_slice()[job.tile as usize];
-    let mesh = build_tile(alloc, layer, &level.setting, job.shapes.as_slice(), steps)?;
+    let mesh = build_kept_tile(alloc, layer, &level.setting, job.shapes.as_slice(), steps)?;
     Ok(Shared::new(alloc, mesh)?)
 }

@@ -6,37 +6,39 @@ ghost use Rattle.mesh_types.specs.Right.{IsRight};
 ghost use Rattle.mesh_types.specs.Soundness.{IsSound};
 ghost use Rattle.nav_query.specs.Questions.{HasLowCost, IsAnswerable};
 
-use corridor_search::{Landmarks, landmarks_of};
-use mesh_types::{Answer, Mesh};
+use mesh_types::{Answer, Mesh, TileMesh};
 use nav_base::Question;
+use nav_ground::TileNo;
 use nav_lists::Shared;
-use nav_query::answer_by;
+use nav_query::PreparedMesh;
 use std::alloc::{AllocError, Global};
 use std::marker::Model;
 
-/// At which path question of one mesh landmarks are made of it. They cost about as much as thirty questions without them, and a later question
-/// takes about a fifth of what it would: so a level that changes after a few questions never pays for them, and where some sixty are asked
-/// of one that stands still, they have paid for themselves.
+/// At which path question landmarks are made where there are none. They cost about as much as thirty questions without them, and a later
+/// question takes about a fifth of what it would: so a level that is asked little never pays for them.
 const PATHS_BEFORE_LANDMARKS: u32 = 24;
 
-/// A mesh, landmarks of it once they were made, and how many path questions were counted. Contracts see the mesh alone.
+/// From how many path questions of one mesh on a publish keeps its landmarks: to test them takes about as long as they save so many.
+const PATHS_THAT_PAY: u32 = 12;
+
+/// A mesh with its landmarks, and the path questions that were counted. Contracts see the mesh alone.
 #[derive(Drop)]
 pub(crate) struct PublishedMesh {
-    mesh: Shared<Mesh>,
-    landmarks: Option<Landmarks>,
+    mesh: PreparedMesh,
+    /// Whether landmarks were asked for, so that they are kept however few questions there are.
+    is_prepared: bool,
+    /// How many path questions this mesh was asked.
     paths: u32,
+    /// How many path questions found no landmarks, of this mesh and of those before it, as far as each of them was asked enough.
+    missed: u32,
 }
 
 impl Model for PublishedMesh {
     ghost use Rattle.mesh_types.specs.declared.mesh.Mesh.{Mesh};
-    ghost use Rattle.std.specs.Prelude.{IfSome};
-    ghost use Rattle.corridor_search.specs.Landmarks.{AreLandmarks};
 
     ghost Value = { Mesh };
 
     ghost view = { λ a. a.mesh };
-
-    ghost invariant = { λ a. IfSome a.landmarks (AreLandmarks a.mesh) };
 }
 
 impl PublishedMesh {
@@ -45,9 +47,10 @@ impl PublishedMesh {
         ensures { result ≡ mesh }
     {
         PublishedMesh {
-            mesh,
-            landmarks: None,
+            mesh: PreparedMesh::new(mesh),
+            is_prepared: false,
             paths: 0,
+            missed: 0,
         }
     }
 
@@ -59,35 +62,60 @@ impl PublishedMesh {
     }
 
     /// A further owner of the mesh. It takes no memory; it is refused only where the count of owners has reached its end.
-    pub(crate) fn share(&self) -> Result<Shared<Mesh>, AllocError>
+    pub(crate) fn share_mesh(&self) -> Result<Shared<Mesh>, AllocError>
+        ensures { IfOk result (λ mesh. mesh ≡ self.now) }
+    {
+        self.mesh.share_mesh()
+    }
+
+    /// The same with its landmarks, where there are some.
+    pub(crate) fn share(&self) -> Result<PreparedMesh, AllocError>
         ensures { IfOk result (λ mesh. mesh ≡ self.now) }
     {
         self.mesh.share()
     }
 
-    /// Shows another mesh, of which no landmarks were made yet.
-    pub(crate) fn show(&mut self, mesh: Shared<Mesh>)
+    /// Another mesh, in which some tiles are new, with the landmarks of this one where they can be kept, and it pays.
+    pub(crate) fn after(
+        &self,
+        alloc: Global,
+        mesh: Shared<Mesh>,
+        news: &[(TileNo, Shared<TileMesh>)],
+    ) -> PreparedMesh
+        requires sound { IsSound mesh }
+        requires setting { IsSetting mesh.setting }
+        ensures { result ≡ mesh }
+    {
+        if self.is_prepared || PATHS_THAT_PAY <= self.paths {
+            self.mesh.after(alloc, mesh, news)
+        } else {
+            PreparedMesh::new(mesh)
+        }
+    }
+
+    /// Shows another mesh.
+    pub(crate) fn show(&mut self, mesh: PreparedMesh)
         ensures { self.new ≡ mesh }
     {
         self.mesh = mesh;
-        self.landmarks = None;
+        if self.paths < PATHS_THAT_PAY {
+            self.missed = 0;
+        }
         self.paths = 0;
     }
 
-    /// Makes landmarks of the mesh where there are none. Where memory is refused, there are none still.
+    /// Makes landmarks of the mesh where there are none, and keeps them from now on. Where memory is refused, there are none still.
     pub(crate) fn prepare(&mut self, alloc: Global) -> Result<(), AllocError>
         requires sound { IsSound self.old }
         requires setting { IsSetting self.old.setting }
         ensures { self.new ≡ self.old }
     {
-        if self.landmarks.is_none() {
-            self.landmarks = Some(landmarks_of(alloc, self.mesh.get())?);
-        }
-        Ok(())
+        self.is_prepared = true;
+        self.mesh.prepare(alloc)
     }
 
-    /// Counts a path question that is about to be asked, and makes landmarks of the mesh once there were many. Where memory for them is refused,
-    /// it is answered without.
+    /// Counts a path question that is about to be asked, and makes landmarks once there were many. Where memory for them is refused, it is
+    /// answered without.
     pub(crate) fn count(&mut self, alloc: Global, question: &Question)
         requires sound { IsSound self.old }
         requires setting { IsSetting self.old.setting }
@@ -95,8 +123,12 @@ impl PublishedMesh {
     {
         if let Question::Path { .. } = *question {
             self.paths = self.paths.saturating_add(1);
-            if self.paths == PATHS_BEFORE_LANDMARKS {
-                let _ = self.prepare(alloc);
+            if !self.mesh.has_landmarks() {
+                self.missed = self.missed.saturating_add(1);
+            }
+            if PATHS_BEFORE_LANDMARKS <= self.missed {
+                self.missed = 0;
+                let _ = self.mesh.prepare(alloc);
             }
         }
     }
@@ -109,6 +141,6 @@ impl PublishedMesh {
         ensures right { IfOk result (λ answer. IsRight self.now question.now answer) }
         ensures low_cost { IfOk result HasLowCost }
     {
-        answer_by(alloc, self.mesh.get(), self.landmarks.as_ref(), question)
+        self.mesh.ask(alloc, question)
     }
 }

@@ -9,3 +9,4 @@ pub mod Triangles
 pub mod Changing
 pub mod Version
 pub mod Shapes
+pub mod Meshes

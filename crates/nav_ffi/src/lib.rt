@@ -5,13 +5,15 @@
 //! was, and its status, its counts and what it leaves in the host's arrays are those of an answer that is right in the published mesh, or what
 //! there is to draw: the definitions stand in `nav_handle` with what crosses the border (`specs/Answers.antt`, `specs/Hopping.antt`,
 //! `specs/Walking.antt`, `specs/Looking.antt` there), in `way_handle/specs` and in `place_handle/specs`. How levels are opened stands in
-//! `specs/Opening.antt` and `specs/Triangles.antt`, what views show in `specs/Viewing.antt`, which tiles changed in `specs/Changing.antt`, the
-//! version in `specs/Version.antt`. No call asks anything of its numbers: those that are out of their limits are told so, and no others.
+//! `specs/Opening.antt`, `specs/Triangles.antt` and `specs/Meshes.antt`, what views show in `specs/Viewing.antt`, which tiles changed in
+//! `specs/Changing.antt`, the version in `specs/Version.antt`. No call asks anything of its numbers: those that are out of their limits are told so, and no others.
 #![tactic(auto)]
 
 mod changes;
+mod goals;
 mod jobs;
 mod looking;
+mod meshes;
 mod opening;
 mod places;
 mod questions;
@@ -22,11 +24,13 @@ mod views;
 mod ways;
 
 pub use changes::navd_changed_tiles;
+pub use goals::{navd_view_follow_path, navd_view_nearest_goal};
 pub use jobs::{
     navd_aim, navd_build, navd_claim, navd_job_close, navd_publish, navd_put_back,
     navd_put_back_all, navd_settle, navd_step, navd_submit,
 };
 pub use looking::{navd_border_links, navd_inner_links, navd_obstacles, navd_polygons};
+pub use meshes::{navd_frame_of, navd_open_mesh, navd_quantize};
 pub use opening::{navd_close, navd_open, navd_open_triangles, navd_renew};
 pub use places::{navd_view_height, navd_view_is_place, navd_view_nearest};
 pub use questions::{

@@ -21,8 +21,8 @@ use nav_handle::{
 };
 use std::alloc::Global;
 
-/// Makes landmarks of what is published, where there are none yet: paths are found sooner with them, until the next publish that shows something
-/// new. What is asked is answered rightly either way.
+/// Makes landmarks of what is published, where there are none yet: paths are found sooner with them, and a publish keeps them where it can. What
+/// is asked is answered rightly either way.
 #[unsafe(no_mangle)]
 pub extern "C" fn navd_prepare(alloc: Global, level: &mut NavdLevel) -> u32
     ensures prepared { IsPrepared level.old.level result }

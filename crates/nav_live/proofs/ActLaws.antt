@@ -1,6 +1,7 @@
 -- What single acts leave as it was, and what they add.
-use Rattle.std.proofs.Common.{◌≡◌, ℕ, ◌+◌, Bool, true, false, [], ◌∷◌, length, ap, ◌∙◌, sym, subst, refl, arith, inl, inr, length-append, Some}
+use Rattle.std.proofs.Common.{◌≡◌, ℕ, ◌+◌, Bool, true, false, List, [], ◌∷◌, length, take, drop, take-append-drop, ap, ◌∙◌, sym, subst, refl, arith, inl, inr, length-append, Some}
 use Rattle.std.specs.Prelude.{Ok, Err, if◌then◌else◌}
+use mathlib.Core.List.{IsPrefix}
 use Rattle.std.proofs.lemmas.Bool.{eqb-true}
 use Rattle.nav_ground.specs.declared.history.Entry.{Entry}
 use Rattle.nav_ground.specs.declared.history.Request.{Request}
@@ -68,3 +69,7 @@ publish_keeps book after done steps =
       | inl taken ↦ (ap root_of taken.1, ap (λ (b : BookView). b.state.history) taken.1)
       | inr refused ↦ (ap root_of refused.1, ap (λ (b : BookView). b.state.history) refused.1)
     ]
+
+-- a list begins with its first entries
+pub front_of : (n : ℕ) (list : List Entry) → IsPrefix (take n list) list
+front_of n list = (drop n list, take-append-drop n list)

@@ -1,6 +1,7 @@
 -- What a lane keeps when it has run one line more.
-use Rattle.std.proofs.Common.{◌≡◌, ◌∙◌, refl, sym, ap, subst, ℕ, ◌+◌, ◌<◌, ◌≤◌, List, [], ◌∷◌, ◌++◌, length, take, get_or, cond, true, append-nil, arith}
-use Rattle.std.specs.Prelude.{Option, Some, None, IfSome, Result, Ok, Err, IfErr, IsErrAnd}
+use Rattle.std.proofs.Common.{◌≡◌, ◌∙◌, refl, sym, ap, subst, ℕ, ◌+◌, ◌<◌, ◌≤◌, List, [], ◌∷◌, ◌++◌, length, take, get_or, cond, Bool, true, false, append-nil, arith}
+use Rattle.std.specs.Prelude.{Option, Some, None, IfSome, Result, Ok, Err, IfErr, IsErrAnd, nat_lt}
+use Rattle.std.proofs.lemmas.Bool.{ltb-false}
 use Rattle.std.proofs.lemmas.Grind.{take_at_read}
 use Rattle.std.proofs.lemmas.List.{map-append}
 use Rattle.std.proofs.lemmas.List.Concat.{flat_map-append}
@@ -26,7 +27,9 @@ use Rattle.agent_walks.specs.Walkers.{IsUnderWay, IsWalker, walker_of}
 use Rattle.nav_script.specs.declared.script.Line.{Line}
 use Rattle.nav_script.specs.declared.script.Line.TheVariants as lines
 use Rattle.nav_script.specs.Lanes.{is_request}
-use Rattle.nav_version.specs.Pairs.{EyeView, HasLooked, after_learning}
+use Rattle.nav_version.specs.Lists.{ToldView}
+use Rattle.nav_version.specs.Pairs.{EyeView, HasLooked, after_learning, longer}
+use Rattle.nav_version.proofs.Beginnings.{IsPrefix-append}
 use Rattle.nav_live.specs.Roots.{RootView}
 use Rattle.nav_live.specs.declared.lane.Lane.{Lane}
 use Rattle.nav_live.specs.declared.lane.LaneEnd.{LaneEnd}
@@ -43,7 +46,7 @@ use Rattle.nav_live.specs.ActRules.{Does, IsLegal, lane_of}
 use Rattle.nav_live.specs.LaneSteps.{HasNoted, HasRun, HasRunAll}
 use Rattle.nav_live.specs.LaneTexts.{said_text, told_text}
 use Rattle.nav_live.specs.Stops.{FindsFull, IsStopped, IsStoppedAt}
-use Rattle.nav_live.specs.Waiting.{HasWaited}
+use Rattle.nav_live.specs.Waiting.{HasLearnt, HasWaited}
 use Rattle.nav_live.proofs.AnswerLaws.{IsPrefix-length, answers_and, answers_later, covers_more, last_number_and, rising_more}
 use Rattle.nav_live.proofs.PassLaws.{saw_then}
 use Rattle.nav_live.proofs.EntryLaws.{entries_extended, entries_of_no_request, entries_of_request}
@@ -78,13 +81,14 @@ still_own lock before after own number same pair level walker = record {
 }
 
 -- a line more that makes no request and no act, after which the eye has seen so much: it is answered as it may be, names no length below what was
--- seen before, and leaves the walker that it may leave
+-- seen before, but the length of what is seen after, and leaves the walker that it may leave
 ran_line : (lock : LockId RootView) (spoken : List Spoken) (before after : Lane) (line : Line) (said : LineAnswer) → KeepsLane lock spoken before
     → HasNoted line said before after → BelongsTo lock after → after.pass ≡ before.pass → IsPrefix before.eye.seen after.eye.seen
     → ((adds : List ℕ) → entry_said before.pass.number adds line said ≡ None) → IsSaid lock.root.ground after.eye.seen line said
     → ((n : ℕ) → said ≡ Settled n → before.last ≤ n) → ((n : ℕ) → length_told said ≡ Some n → length before.eye.seen ≤ n)
-    → KeepsWalker lock.root.ground after.eye.seen (spoken ++ (line, said) ∷ []) after.walker → HasRun lock line spoken after
-ran_line lock spoken before after line said keeps noted own same seen silent is covers above walks =
+    → KeepsWalker lock.root.ground after.eye.seen (spoken ++ (line, said) ∷ []) after.walker → IfSome (length_told said) (λ k. k ≡ length after.eye.seen)
+    → HasRun lock line spoken after
+ran_line lock spoken before after line said keeps noted own same seen silent is covers above walks named =
     let one : Spoken = (line, said) in
     record {
       said = said;
@@ -97,6 +101,7 @@ ran_line lock spoken before after line said keeps noted own same seen silent is 
         walks = walks;
         notes = noted_more spoken line said before after keeps.notes noted;
       };
+      named = named;
     }
 
 -- a length that was told is at least that of all that was seen before
@@ -114,19 +119,20 @@ ran_ask lock spoken before after question k answer keeps noted number same walke
     same looked.seen (λ adds. refl) (omega (arith, long), right') (λ n is. absurd (cc is))
     (λ n is. told_above before.eye after.eye k n looked long (cc is))
     (walks_past lock.root.ground before.eye.seen after.eye.seen spoken (lines.Ask question, Answered k answer) before.walker after.walker looked.seen keeps.answers keeps.walks
-    walker (λ standing. refl, λ ground history standing. tt))
+    walker (λ standing. refl, λ ground history standing. tt)) long
 
 pub ran_settle : (lock : LockId RootView) (spoken : List Spoken) (before after : Lane) (k : ℕ)
     → KeepsLane lock spoken before → HasNoted lines.Settle (Settled k) before after → after.number ≡ before.number → after.pass ≡ before.pass
     → after.walker ≡ before.walker → after.eye.pair ≡ before.eye.pair → after.eye.ground ≡ before.eye.ground → IsPrefix before.eye.seen after.eye.seen
-    → k ≤ length after.eye.seen → before.last ≤ k → length before.eye.seen ≤ k → HasRun lock lines.Settle spoken after
-ran_settle lock spoken before after k keeps noted number same walker pair level seen within covers above =
+    → k ≡ length after.eye.seen → before.last ≤ k → length before.eye.seen ≤ k → HasRun lock lines.Settle spoken after
+ran_settle lock spoken before after k keeps noted number same walker pair level seen long covers above =
+    let within : k ≤ length after.eye.seen = omega (arith, long) in
     ran_line lock spoken before after lines.Settle (Settled k) keeps noted
     (still_own lock before after keeps.own number same pair level (subst (λ w. IfSome w IsWalker) (sym walker) keeps.own.walker))
     same seen (λ adds. refl) within (λ n is. let same' : k ≡ n = cc is in omega (arith, covers, same'))
     (λ n is. let same' : k ≡ n = cc is in omega (arith, above, same'))
     (walks_past lock.root.ground before.eye.seen after.eye.seen spoken (lines.Settle, Settled k) before.walker after.walker seen keeps.answers keeps.walks
-    walker (λ standing. refl, λ ground history standing. tt))
+    walker (λ standing. refl, λ ground history standing. tt)) long
 
 -- a `send` was answered from what the eye sees after it, and left this walker
 pub record HasSent (before eye : EyeView) (from : Point) (from_y : ℕ) (to : Point) (to_y k : ℕ) (answer : WalkAnswer) (walker : Option Walker) : Type 0 where
@@ -153,7 +159,7 @@ ran_send lock spoken before after eye from from_y to to_y k answer walker keeps 
     (λ n e. told_above before.eye after.eye k n has'.looked has'.long (cc e))
     (walks_sent level after.eye.seen spoken before.walker after.walker from from_y to to_y k answer there within
     (subst (λ g. IsSent (build_of g after.eye.seen k) from from_y to to_y answer) keeps.own.ground has'.sent) has'.leaves
-    (subst (λ g. IsUnderWay (build_of g after.eye.seen k) to to_y answer) keeps.own.ground has'.way))
+    (subst (λ g. IsUnderWay (build_of g after.eye.seen k) to to_y answer) keeps.own.ground has'.way)) has'.long
 
 -- a march of a walker was answered from what the eye sees after it, and left this walker
 pub record HasMarched (before eye : EyeView) (walker : Walker) (far k : ℕ) (answer : WalkAnswer) (left : Option Walker) : Type 0 where
@@ -182,7 +188,7 @@ ran_march lock spoken before after eye walker far k answer left keeps was noted 
     (λ n e. told_above before.eye after.eye k n has'.looked has'.long (cc e))
     (walks_marched level after.eye.seen spoken walker after.walker far k answer there within
     (subst (λ g. IsMarched (build_of g after.eye.seen k) walker.point walker.y walker.goal walker.goal_y far answer) keeps.own.ground has'.marched) has'.leaves
-    (subst (λ g. IsUnderWay (build_of g after.eye.seen k) walker.goal walker.goal_y answer) keeps.own.ground has'.way))
+    (subst (λ g. IsUnderWay (build_of g after.eye.seen k) walker.goal walker.goal_y answer) keeps.own.ground has'.way)) has'.long
 
 -- a march where there is no walker
 pub ran_idle : (lock : LockId RootView) (spoken : List Spoken) (before after : Lane) (far : ℕ) → KeepsLane lock spoken before → before.walker ≡ None
@@ -196,7 +202,7 @@ ran_idle lock spoken before after far keeps was noted number same is none =
     subst (λ w. KeepsWalker level after.eye.seen (spoken ++ (lines.March far, NoWalker) ∷ []) w) (sym none)
     (subst (λ e. KeepsWalker level e.seen (spoken ++ (lines.March far, NoWalker) ∷ []) None) (sym is) (walks_not level before.eye.seen spoken far there)) in
     ran_line lock spoken before after (lines.March far) NoWalker keeps noted own same ([], append-nil before.eye.seen ∙ ap (λ e. e.seen) (sym is)) (λ adds. refl) tt
-    (λ n e. absurd (cc e)) (λ n e. absurd (cc e)) walks
+    (λ n e. absurd (cc e)) (λ n e. absurd (cc e)) walks tt
 
 -- what an answered request of a lane did to the history that its pass has seen
 pub record HasAsked (lock : LockId RootView) (before after : Lane) (request : Request) (k : ℕ) (reply : Reply) : Type 0 where
@@ -238,7 +244,12 @@ finds_full lock before pass line request len of number turn makes =
     let own = before.pass.number in
     record {
       asks = (asking lock.root.ground [] before.adds line request makes).0;
-      saw = record { of = of; number = number; entries = ap (entries_made own) turn.did.0 ∙ entries_extended own before.pass.seen turn.before turn.extends };
+      saw = record {
+        of = of;
+        number = number;
+        seen = IsPrefix-append before.pass.seen pass.seen turn.extends.rest (turn.did.0 ∙ turn.extends.longer);
+        entries = ap (entries_made own) turn.did.0 ∙ entries_extended own before.pass.seen turn.before turn.extends;
+      };
       full = sym turn.did.1 ∙ turn.did.2;
     }
 
@@ -277,6 +288,7 @@ ran_request lock spoken before after line request k reply keeps noted number sam
         walks = walks_past level before.eye.seen after.eye.seen spoken one before.walker after.walker seen keeps.answers keeps.walks walker (rules.2 k reply);
         notes = noted_more spoken line (Replied k reply) before after keeps.notes noted;
       };
+      named = tt;
     }
 
 -- the same where the eye after the line is that after a call
@@ -288,14 +300,31 @@ ran_ask_by lock spoken before after eye question k answer keeps noted number sam
     ran_ask lock spoken before after question k answer keeps noted number same walker (subst (HasLooked before.eye) (sym is) looked) (long ∙ ap (λ e. length e.seen) (sym is))
     (subst (λ e. IsRight (build_of before.eye.ground e.seen k) question answer) (sym is) right)
 
+-- an eye that knew no longer list than one that it learns knows none that is longer then
+pub longest_learnt : (own told : List Entry) → length own ≤ length told → length (longer own told) ≡ length told
+longest_learnt own told below = by_test (nat_lt (length own) (length told)) refl
+  where
+    by_test : (b : Bool) → nat_lt (length own) (length told) ≡ b → length (cond b told own) ≡ length told
+    by_test true is = refl
+    by_test false is = omega (arith, below, ltb-false (length own) (length told) is)
+
 pub ran_settle_by : (lock : LockId RootView) (spoken : List Spoken) (before after : Lane) (eye : EyeView) (told : List Entry) (k : ℕ)
     → KeepsLane lock spoken before → HasNoted lines.Settle (Settled k) before after → after.number ≡ before.number → after.pass ≡ before.pass → after.walker ≡ before.walker → after.eye ≡ eye
-    → eye ≡ after_learning before.eye told → IsPrefix before.eye.seen eye.seen → IsPrefix told eye.seen → k ≡ length told
+    → eye ≡ after_learning before.eye told → IsPrefix before.eye.seen eye.seen → k ≡ length told
     → before.last ≤ k → length before.eye.seen ≤ k → HasRun lock lines.Settle spoken after
-ran_settle_by lock spoken before after eye told k keeps noted number same walker is learnt own more long covers above =
-    let within : k ≤ length after.eye.seen = omega (arith, long, IsPrefix-length told eye.seen more, ap (λ e. length e.seen) is) in
+ran_settle_by lock spoken before after eye told k keeps noted number same walker is learnt own long covers above =
+    let longest = longest_learnt before.eye.seen told (omega (arith, long, above)) in
+    let seen : k ≡ length after.eye.seen = omega (arith, long, longest, ap (λ e. length e.seen) (is ∙ learnt)) in
     ran_settle lock spoken before after k keeps noted number same walker (ap (λ e. e.pair) (is ∙ learnt)) (ap (λ e. e.ground) (is ∙ learnt))
-    (subst (λ e. IsPrefix before.eye.seen e.seen) (sym is) own) within covers above
+    (subst (λ e. IsPrefix before.eye.seen e.seen) (sym is) own) seen covers above
+
+-- a lane that has waited, and then taken in a list, has taken it in since before it waited
+pub learnt_since : (lock : LockId RootView) (told : ToldView) (before between after : Lane) → HasWaited lock before between → HasLearnt told between after → HasLearnt told before after
+learnt_since lock told before between after waited has = record {
+  learnt = has.learnt ∙ ap (λ (l : Lane). after_learning l.eye told.entries) waited.rest;
+  longest = has.longest;
+  text = has.text ∙ ap (λ (l : Lane). l.text.items ++ said_text (Settled (length told.entries))) waited.rest;
+}
 
 -- two acts more
 pub waited_more : (lock : LockId RootView) (before between : Lane) (pass then : PassView RootView Entry) → HasWaited lock before between

@@ -1,10 +1,14 @@
 -- What acts on a book under the lock are allowed, what they answer, and what they do to the history.
 use Rattle.std.specs.Prelude.{◌≡◌, ℕ, ◌≤◌, ⊤, List, [], ◌∷◌, ◌++◌, length, Option, Some, None, All}
+use mathlib.Core.List.{IsPrefix}
 use Rattle.nav_ground.specs.declared.history.Entry.{Entry}
 use Rattle.nav_ground.specs.declared.history.Request.{Request}
-use Rattle.nav_ground.specs.History.{IsHistory, IsRequest, history_limit}
+use Rattle.nav_ground.specs.declared.shape.Shape.{Shape}
+use Rattle.nav_ground.specs.History.{IsHistory, IsRequest, history_limit, shapes_alive}
 use Rattle.nav_ground.specs.Limits.{IsShape}
+use Rattle.nav_ground.specs.Touching.{touching_shapes}
 use Rattle.nav_version.specs.Lists.{ToldView}
+use Rattle.build_queue.specs.declared.live.Job.{Job}
 use Rattle.build_queue.specs.declared.live.Published.{Published}
 use Rattle.build_queue.specs.declared.live.Published.TheVariants.{New, Same, NotYet}
 use Rattle.build_queue.specs.Steps.{IsJob}
@@ -44,16 +48,29 @@ DoesAsk lane request before (dones.Asked number reply) after =
 DoesAsk lane request before (dones.HistoryFull len) after = (after ≡ before) × (len ≡ length after) × (len ≡ history_limit)
 DoesAsk lane request before _ after = ⊥
 
-abbrev pub DoesAim : LiveDone → Type 0
-DoesAim (dones.Aim k) = ⊤
-DoesAim _ = ⊥
+-- an aim is answered the length of the history
+abbrev pub DoesAim : List Entry → LiveDone → Type 0
+DoesAim history (dones.Aim k) = k ≡ length history
+DoesAim history _ = ⊥
 
--- a job that was claimed is one for the ground
-abbrev pub DoesClaim : RootView → LiveDone → Type 0
-DoesClaim root (dones.Claimed job) = IsJob root.ground.setting job
-DoesClaim root dones.NoTile = ⊤
-DoesClaim root dones.NoMemory = ⊤
-DoesClaim root _ = ⊥
+-- the shapes that touch a tile of a ground after so many entries of a history
+abbrev pub touching_after : RootView → List Entry → ℕ → ℕ → List Shape
+touching_after root history k tile = touching_shapes root.ground.setting tile (shapes_alive history k)
+
+-- a job is one that a history asks for: its tile is one of the ground, and its shapes are those that touch the tile after so many entries of the
+-- history
+pub record IsJobOf (root : RootView) (history : List Entry) (job : Job) : Type 0 where
+  pub fit : IsJob root.ground.setting job
+  pub target : ℕ
+  pub aimed : target ≤ length history
+  pub shapes : job.shapes ≡ touching_after root history target job.tile
+
+-- a job that was claimed is one that the history asks for
+abbrev pub DoesClaim : RootView → List Entry → LiveDone → Type 0
+DoesClaim root history (dones.Claimed job) = IsJobOf root history job
+DoesClaim root history dones.NoTile = ⊤
+DoesClaim root history dones.NoMemory = ⊤
+DoesClaim root history _ = ⊥
 
 abbrev pub DoesPutBack : LiveDone → Type 0
 DoesPutBack dones.Back = ⊤
@@ -69,14 +86,14 @@ IsTold (New k) length = length ≡ k
 IsTold (Same k) length = length ≡ k
 IsTold (NotYet tile) length = ⊤
 
--- what is told after a publish is a length of the pair, and at most that of the history
-pub record Tells (root : RootView) (history : List Entry) (answer : Published) (told : ToldView) : Type 0 where
+-- a list that is told after a publish is one of the pair, and the history begins with it
+pub record Tells (root : RootView) (history : List Entry) (told : ToldView) : Type 0 where
   pub pair : told.pair ≡ root.pair
-  pub within : length told.entries ≤ length history
-  pub names : IsTold answer (length told.entries)
+  pub front : IsPrefix told.entries history
 
+-- a publish is answered what it came to, and told the list that is published then
 abbrev pub DoesPublish : RootView → List Entry → LiveDone → Type 0
-DoesPublish root history (dones.Published answer told) = Tells root history answer told
+DoesPublish root history (dones.Published answer told) = Tells root history told × IsTold answer (length told.entries)
 DoesPublish root history dones.NoMemory = ⊤
 DoesPublish root history _ = ⊥
 
@@ -84,8 +101,8 @@ DoesPublish root history _ = ⊥
 -- history
 abbrev pub Does : RootView → List Entry → LiveAct → LiveDone → List Entry → Type 0
 Does root before (acts.Ask lane request) done after = DoesAsk lane request before done after
-Does root before acts.Aim done after = (after ≡ before) × DoesAim done
-Does root before acts.Claim done after = (after ≡ before) × DoesClaim root done
+Does root before acts.Aim done after = (after ≡ before) × DoesAim after done
+Does root before acts.Claim done after = (after ≡ before) × DoesClaim root after done
 Does root before (acts.PutBack job) done after = (after ≡ before) × DoesPutBack done
 Does root before (acts.Submit made) done after = (after ≡ before) × DoesSubmit done
 Does root before acts.Publish done after = (after ≡ before) × DoesPublish root after done

@@ -1,5 +1,5 @@
 -- What a lane runs, and what it keeps of it.
-use Rattle.std.specs.Prelude.{◌≡◌, ⊤, List, [], ◌∷◌, ◌++◌, map}
+use Rattle.std.specs.Prelude.{◌≡◌, ⊤, List, [], ◌∷◌, ◌++◌, length, map, IfSome}
 use Rattle.turn_lock.specs.Locks.{LockId}
 use Rattle.nav_base.specs.Point.{HasCoordinates}
 use Rattle.nav_ground.specs.Limits.{IsShape}
@@ -10,7 +10,7 @@ use Rattle.nav_live.specs.Roots.{RootView}
 use Rattle.nav_live.specs.declared.lane.Lane as lanes
 use Rattle.nav_live.specs.declared.lane.LineAnswer.{LineAnswer}
 use Rattle.nav_live.specs.LaneEntries.{Spoken, adds_with}
-use Rattle.nav_live.specs.LaneRecords.{number_after}
+use Rattle.nav_live.specs.LaneRecords.{length_told, number_after}
 use Rattle.nav_live.specs.LaneTexts.{said_text}
 use Rattle.nav_live.specs.Lanes.{KeepsLane}
 
@@ -31,10 +31,12 @@ pub record HasNoted (line : Line) (said : LineAnswer) (before after : lanes.Lane
   pub adds : after.adds ≡ adds_with before.adds (line, said)
   pub last : after.last ≡ number_after before.last said
 
--- a lane that had run lines with these answers has run a line more
+-- a lane that had run lines with these answers has run a line more. A length that the line names is that of the longest list that the lane's eye
+-- then knows, and an eye knows none but those that were published in its pair
 pub record HasRun (lock : LockId RootView) (line : Line) (spoken : List Spoken) (after : lanes.Lane) : Type 0 where
   pub said : LineAnswer
   pub keeps : KeepsLane lock (spoken ++ (line, said) ∷ []) after
+  pub named : IfSome (length_told said) (λ k. k ≡ length after.eye.seen)
 
 -- a lane has run these lines and no others
 pub record HasRunAll (lock : LockId RootView) (list : List Line) (lane : lanes.Lane) : Type 0 where

@@ -1,5 +1,6 @@
 -- What lanes and workers keep between two of their steps.
 use Rattle.std.specs.Prelude.{◌≡◌, ℕ, ◌≤◌, ⊤, List, [], length, slice_get, take, All, AllPairs, Option, Some, None, IfSome}
+use mathlib.Core.List.{IsPrefix}
 use Rattle.turn_lock.specs.Locks.{LockId, PassView, IsOf}
 use Rattle.nav_ground.specs.declared.history.Entry.{Entry}
 use Rattle.nav_ground.specs.declared.history.Ground.{Ground}
@@ -19,11 +20,16 @@ use Rattle.nav_live.specs.LaneWalkers.{Standing, AreMoved, last_standing}
 use Rattle.nav_live.specs.LaneRecords.{IsSaid, last_number, lengths_told}
 use Rattle.nav_live.specs.LaneTexts.{told_text}
 
--- a pass has acted without asking: it is of the lock, has its number, and has seen no further entry of its own
+-- a pass has acted without asking: it is of the lock, has its number, and what it has seen goes on from what it had seen by no further entry of its own
 pub record SawOthers (lock : LockId RootView) (before after : PassView RootView Entry) : Type 0 where
   pub of : IsOf lock after
   pub number : after.number ≡ before.number
+  pub seen : IsPrefix before.seen after.seen
   pub entries : entries_made before.number after.seen ≡ entries_made before.number before.seen
+
+-- the first k entries are all that a pass has seen, or more
+abbrev pub Covers : PassView RootView Entry → ℕ → Type 0
+Covers pass k = length pass.seen ≤ k
 
 -- a length that was told is one of the lock's pair
 abbrev pub IsToldOf : LockId RootView → ToldView → Type 0

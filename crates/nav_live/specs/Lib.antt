@@ -14,7 +14,6 @@ pub mod Contexts
 pub mod ActRules
 pub mod LiveBooks
 pub mod Lanes
-pub mod Acting
 pub mod LaneSteps
 pub mod Stops
 pub mod Waiting

@@ -1,16 +1,16 @@
-//! The book under the lock. What actors do while they have the turn, but for requests; each rings for what others may wait for, once it has
+//! The book under the lock. What actors do while they have the turn, but for requests; each notifies those who may wait for it, once it has
 //! given the turn back.
 
-ghost use Rattle.std.specs.Prelude.{◌≡◌, IfOk, IfSome};
+ghost use Rattle.std.specs.Prelude.{◌≡◌, IfOk, IfSome, length};
+ghost use mathlib.Core.List.{IsPrefix};
 ghost use Rattle.nav_ground.specs.History.{IsRequest};
-ghost use Rattle.nav_live.specs.ActRules.{DoesClaim, DoesPublish, IsMade};
-ghost use Rattle.nav_live.specs.LiveBooks.{Steps};
+ghost use Rattle.nav_live.specs.ActRules.{DoesClaim, DoesPublish, IsJobOf, IsMade, Tells};
+ghost use Rattle.nav_live.specs.LiveBooks.{Steps, told_of};
 ghost use Rattle.nav_live.specs.Roots.{root_of};
 ghost use Rattle.nav_live.specs.declared.book.LiveAct.TheVariants as acts;
 ghost use Rattle.turn_lock.specs.Locks.{IsOf};
 ghost use Rattle.build_queue.specs.Steps.{IsJob};
-ghost use Rattle.nav_live.specs.Acting.{HasActed, HasDone, HasTried, claim_done};
-ghost use Rattle.nav_live.specs.Lanes.{IsToldOf, SawOthers};
+ghost use Rattle.nav_live.specs.Lanes.{Covers, SawOthers};
 
 use crate::builds::RunContext;
 use mesh_types::TileMesh;
@@ -99,7 +99,7 @@ impl LiveBook {
     /// Claims a tile, if one waits.
     fn claim(&mut self, alloc: Global) -> LiveDone
         ensures steps { Steps self.old.book acts.Claim result self.new.book }
-        ensures fits { DoesClaim (root_of self.old.book) result }
+        ensures asks { DoesClaim (root_of self.old.book) self.new.book.state.history result }
     {
         match self.book.claim(alloc) {
             Ok(Some(job)) => LiveDone::Claimed { job },
@@ -108,20 +108,25 @@ impl LiveBook {
         }
     }
 
+    /// What is published, for an eye to learn: the history begins with it.
+    fn told(&self) -> Told
+        ensures told { result ≡ told_of self.now.book }
+        ensures length { length result.entries ≡ self.now.book.state.published }
+        ensures front { IsPrefix result.entries self.now.book.state.history }
+    {
+        self.book.told()
+    }
+
     /// Publishes the target, and tells what is published then.
     fn publish<R: Wait>(&mut self, rt: &R, alloc: Global) -> LiveDone
         ensures steps { Steps self.old.book acts.Publish result self.new.book }
         ensures tells { DoesPublish (root_of self.old.book) self.new.book.state.history result }
     {
         match self.book.publish(rt, alloc) {
-            Ok(answer) => {
-                // It shows no more entries than there are, as each book does.
-                let _level = self.book.level();
-                LiveDone::Published {
-                    answer,
-                    told: self.book.told(),
-                }
-            }
+            Ok(answer) => LiveDone::Published {
+                answer,
+                told: self.told(),
+            },
             Err(AllocError) => LiveDone::NoMemory,
         }
     }
@@ -201,25 +206,31 @@ impl HeldJob {
     }
 }
 
-/// Makes the whole history the target.
-pub(crate) fn aim<R: Wait, G>(context: &RunContext<'_, R, G>, pass: &mut Pass<LiveBook>)
+/// Makes the whole history the target, and gives its length.
+pub(crate) fn aim<R: Wait, G>(context: &RunContext<'_, R, G>, pass: &mut Pass<LiveBook>) -> u32
     requires { IsOf context.now.lock.now pass.old }
-    ensures { HasActed context.now.lock.now acts.Aim pass.old pass.new }
+    ensures whole { result ≡ length pass.new.seen }
+    ensures covers { Covers pass.old result }
+    ensures saw { SawOthers context.now.lock.now pass.old pass.new }
 {
-    let _done = context
+    let LiveDone::Aim { k } = context
         .lock
-        .with(context.rt, context.alloc, pass, LiveAct::Aim);
+        .with(context.rt, context.alloc, pass, LiveAct::Aim)
+    else {
+        unreachable!()
+    };
     context.events.tiles_changed();
+    k
 }
 
-/// Claims a tile, if one waits.
+/// Claims a tile, if one waits. Its job is one that the history asks for.
 pub(crate) fn claim<R: Wait, G>(
     context: &RunContext<'_, R, G>,
     pass: &mut Pass<LiveBook>,
 ) -> Result<Option<HeldJob>, AllocError>
     requires { IsOf context.now.lock.now pass.old }
-    ensures done { HasDone context.now.lock.now acts.Claim (claim_done result) pass.old pass.new }
-    ensures fit { IfOk result (λ job. IfSome job (IsJob context.now.lock.now.root.ground.setting)) }
+    ensures job { IfOk result (λ job. IfSome job (IsJobOf context.now.lock.now.root pass.new.seen)) }
+    ensures saw { SawOthers context.now.lock.now pass.old pass.new }
 {
     match context
         .lock
@@ -240,7 +251,7 @@ pub(crate) fn put_back<R: Wait, G>(
 )
     requires of { IsOf context.now.lock.now pass.old }
     requires job { IsJob context.now.lock.now.root.ground.setting held }
-    ensures { HasActed context.now.lock.now (acts.PutBack held) pass.old pass.new }
+    ensures { SawOthers context.now.lock.now pass.old pass.new }
 {
     let HeldJob { job } = held;
     let _done = context
@@ -259,7 +270,7 @@ pub(crate) fn submit<R: Wait, G>(
 )
     requires of { IsOf context.now.lock.now pass.old }
     requires made { IsMade context.now.lock.now.root (record { tile = held.tile; shapes = held.shapes; mesh = mesh }) }
-    ensures { HasActed context.now.lock.now (acts.Submit (record { tile = held.tile; shapes = held.shapes; mesh = mesh })) pass.old pass.new }
+    ensures { SawOthers context.now.lock.now pass.old pass.new }
 {
     let HeldJob { job } = held;
     let Job { tile, shapes } = job;
@@ -276,14 +287,13 @@ pub(crate) fn submit<R: Wait, G>(
     }
 }
 
-/// Publishes the target, and tells the published length; none where a tile still waits for its build.
+/// Publishes the target, and tells the list that is published then; none where a tile still waits for its build.
 pub(crate) fn publish<R: Wait, G>(
     context: &RunContext<'_, R, G>,
     pass: &mut Pass<LiveBook>,
 ) -> Result<Option<Told>, AllocError>
     requires { IsOf context.now.lock.now pass.old }
-    ensures tried { HasTried context.now.lock.now pass.old pass.new result }
-    ensures told { IfOk result (λ told. IfSome told (IsToldOf context.now.lock.now)) }
+    ensures told { IfOk result (λ told. IfSome told (Tells context.now.lock.now.root pass.new.seen)) }
     ensures saw { SawOthers context.now.lock.now pass.old pass.new }
 {
     match context

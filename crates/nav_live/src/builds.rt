@@ -1,12 +1,12 @@
 //! What actors build. What the actors of a run share. A worker.
 
-ghost use Rattle.std.specs.Prelude.{IfOk, OnErr, OnOk, ◌≡◌};
+ghost use Rattle.std.specs.Prelude.{IfOk, if◌then◌else◌, ◌+◌, ◌≡◌};
 ghost use Rattle.turn_lock.specs.Locks.{IsOf};
+ghost use Rattle.nav_base.specs.Counts.{HasRisenAtMost};
 ghost use Rattle.build_queue.specs.Steps.{IsJob};
-ghost use Rattle.nav_live.specs.declared.book.LiveAct.TheVariants as acts;
-ghost use Rattle.nav_live.specs.Acting.{HasActed, HasBuilt, HasPublishedLast, built_for};
+ghost use Rattle.nav_live.specs.ActRules.{Tells};
 ghost use Rattle.nav_live.specs.Contexts.{IsContext};
-ghost use Rattle.nav_live.specs.Lanes.{IsToldOf, SawOthers};
+ghost use Rattle.nav_live.specs.Lanes.{SawOthers};
 
 use crate::book::{HeldJob, LiveBook, claim, publish, put_back, submit};
 use crate::event_count::EventCount;
@@ -20,7 +20,7 @@ use std::sync::Wait;
 use std::sync::ledger::Ledger;
 use turn_lock::{Pass, TurnLock};
 
-/// Builds the tile of a job and hands it in. Where memory is refused the job is given back.
+/// Builds the tile of a job and hands it in, with one step. Where memory is refused the job is given back.
 fn build<R: Wait, G: Gate, L: Ledger>(
     context: &RunContext<'_, R, G>,
     pass: &mut Pass<LiveBook>,
@@ -31,8 +31,8 @@ fn build<R: Wait, G: Gate, L: Ledger>(
     requires of { IsOf context.now.lock.now pass.old }
     requires context { IsContext context.now.lock.now context.now.ground.now }
     requires job { IsJob context.now.ground.now.setting held }
-    ensures handed { OnOk result (HasActed context.now.lock.now (acts.Submit (built_for context.now.ground.now held)) pass.old pass.new) }
-    ensures back { OnErr result (HasActed context.now.lock.now (acts.PutBack held) pass.old pass.new) }
+    ensures saw { SawOthers context.now.lock.now pass.old pass.new }
+    ensures step { steps.new ≡ steps.old + 1 }
 {
     context.gate.pass(actor, Stage::BeforeBuild);
     match build_job(context.alloc, context.ground, held.job(), steps) {
@@ -48,7 +48,8 @@ fn build<R: Wait, G: Gate, L: Ledger>(
     }
 }
 
-/// Claims a tile, and builds it, if one waits; says whether one did.
+/// Claims a tile, and builds it, with one step, if one waits; says whether one did.
+#[tactic(auto, using(crate::proofs::PassLaws::saw_then))]
 pub(crate) fn build_next<R: Wait, G: Gate, L: Ledger>(
     context: &RunContext<'_, R, G>,
     pass: &mut Pass<LiveBook>,
@@ -57,8 +58,9 @@ pub(crate) fn build_next<R: Wait, G: Gate, L: Ledger>(
 ) -> Result<bool, AllocError>
     requires of { IsOf context.now.lock.now pass.old }
     requires context { IsContext context.now.lock.now context.now.ground.now }
-    ensures built { HasBuilt context.now.lock.now pass.old pass.new result }
     ensures saw { SawOthers context.now.lock.now pass.old pass.new }
+    ensures steps { IfOk result (λ built. steps.new ≡ steps.old + (if built then 1 else 0)) }
+    ensures most { HasRisenAtMost 1 steps.old steps.new }
 {
     context.gate.pass(actor, Stage::BeforeClaim);
     match claim(context, pass)? {
@@ -70,7 +72,7 @@ pub(crate) fn build_next<R: Wait, G: Gate, L: Ledger>(
     }
 }
 
-/// Builds what waits, and publishes once nothing waits; tells the published length. Where others build what is still awaited it sleeps until
+/// Builds what waits, and publishes once nothing waits; tells the list that is published then. Where others build what is still awaited it sleeps until
 /// one of them has handed in or given back.
 #[tactic(auto, using(crate::proofs::PassLaws::saw_itself, crate::proofs::PassLaws::saw_then))]
 pub(crate) fn publish_all<R: Wait, G: Gate, L: Ledger>(
@@ -81,12 +83,11 @@ pub(crate) fn publish_all<R: Wait, G: Gate, L: Ledger>(
 ) -> Result<Told, AllocError>
     requires of { IsOf context.now.lock.now pass.old }
     requires context { IsContext context.now.lock.now context.now.ground.now }
-    ensures published { IfOk result (λ told. HasPublishedLast context.now.lock.now told pass.old pass.new) }
-    ensures told { IfOk result (IsToldOf context.now.lock.now) }
+    ensures told { IfOk result (Tells context.now.lock.now.root pass.new.seen) }
     ensures saw { SawOthers context.now.lock.now pass.old pass.new }
 {
     for _ in context.rt.forever() {
-        let heard = context.events.builds_heard();
+        let epoch = context.events.builds_epoch();
         if build_next(context, pass, actor, steps)? {
             continue;
         }
@@ -94,7 +95,7 @@ pub(crate) fn publish_all<R: Wait, G: Gate, L: Ledger>(
         if let Some(told) = publish(context, pass)? {
             return Ok(told);
         }
-        context.events.wait_for_builds(context.rt, heard);
+        context.events.wait_for_builds(context.rt, epoch);
     }
     unreachable!()
 }
@@ -147,9 +148,9 @@ impl Worker {
             if idle >= IDLE_CLAIMS {
                 return Ok(());
             }
-            let heard = context.events.tiles_heard();
+            let epoch = context.events.tiles_epoch();
             let built = build_next(context, &mut self.pass, actor, steps)?;
-            let stays = built || context.events.wait_for_tiles(context.rt, heard);
+            let stays = built || context.events.wait_for_tiles(context.rt, epoch);
             idle = if stays { 0 } else { idle + 1 };
         }
         unreachable!()

@@ -26,36 +26,38 @@ impl ChangeCount {
         }
     }
 
-    fn heard(&self) -> u64 {
+    /// How many changes there were.
+    fn epoch(&self) -> u64 {
         self.changes.load(Ordering::SeqCst)
     }
 
-    fn ring(&self) {
+    /// Counts a change, and wakes who sleeps.
+    fn notify(&self) {
         self.changes.fetch_add(1, Ordering::SeqCst);
         if self.sleepers.load(Ordering::SeqCst) > 0 {
             self.changes.wake_all();
         }
     }
 
-    /// Sleeps until the number is not the one that was heard.
-    fn wait<R: Wait>(&self, rt: &R, heard: u64) {
+    /// Sleeps until the count is not the one that was taken.
+    fn wait<R: Wait>(&self, rt: &R, epoch: u64) {
         self.sleepers.fetch_add(1, Ordering::SeqCst);
         for _ in rt.forever() {
-            if self.heard() != heard {
+            if self.epoch() != epoch {
                 break;
             }
-            self.changes.park(rt, (heard % 4294967296) as u32);
+            self.changes.park(rt, (epoch % 4294967296) as u32);
         }
         self.sleepers.fetch_sub(1, Ordering::SeqCst);
     }
 
-    /// Sleeps for a while, or until the number is not the one that was heard.
-    fn pause<R: Wait>(&self, rt: &R, heard: u64) {
+    /// Sleeps for a while, or until the count is not the one that was taken.
+    fn pause<R: Wait>(&self, rt: &R, epoch: u64) {
         self.sleepers.fetch_add(1, Ordering::SeqCst);
-        if self.heard() == heard {
+        if self.epoch() == epoch {
             self.changes.park_timeout(
                 rt,
-                (heard % 4294967296) as u32,
+                (epoch % 4294967296) as u32,
                 Duration::from_micros(PAUSE_MICROS),
             );
         }
@@ -66,10 +68,10 @@ impl ChangeCount {
 /// What wakes the actors of a run. No act on the book waits for it, and it tells nothing of the book.
 #[derive(Drop)]
 pub struct EventCount {
-    /// Rung where a tile may have come to be claimed: after an aim, a job that was given back and a build that came too late; and where a lane
+    /// Counts up where a tile may have come to be claimed: after an aim, a job that was given back and a build that came too late; and where a lane
     /// ends. Workers sleep on it.
     tiles: ChangeCount,
-    /// Rung after each build that was handed in, each job that was given back, and each end of a lane. Lanes sleep on it.
+    /// Counts up after each build that was handed in, each job that was given back, and each end of a lane. Lanes sleep on it.
     builds: ChangeCount,
     /// How many lanes have not begun.
     ahead: AtomicU64,
@@ -78,7 +80,7 @@ pub struct EventCount {
 }
 
 impl EventCount {
-    /// The bell of a run with so many lanes, of which none has begun.
+    /// The event counts of a run with so many lanes, of which none has begun.
     pub fn new(lanes: u32) -> Self {
         EventCount {
             tiles: ChangeCount::new(),
@@ -98,46 +100,46 @@ impl EventCount {
     /// place.
     pub(crate) fn end_lane(&self) {
         self.running.fetch_sub(1, Ordering::SeqCst);
-        self.tiles.ring();
-        self.builds.ring();
+        self.tiles.notify();
+        self.builds.notify();
     }
 
     /// A tile may have come to be claimed.
     pub(crate) fn tiles_changed(&self) {
-        self.tiles.ring();
+        self.tiles.notify();
     }
 
     /// A build was handed in, or a job given back.
     pub(crate) fn builds_changed(&self) {
-        self.builds.ring();
+        self.builds.notify();
     }
 
     /// What a lane notes before it claims, and what a worker does.
-    pub(crate) fn builds_heard(&self) -> u64 {
-        self.builds.heard()
+    pub(crate) fn builds_epoch(&self) -> u64 {
+        self.builds.epoch()
     }
 
-    pub(crate) fn tiles_heard(&self) -> u64 {
-        self.tiles.heard()
+    pub(crate) fn tiles_epoch(&self) -> u64 {
+        self.tiles.epoch()
     }
 
     /// A lane sleeps until a build was handed in, a job given back, or a lane ended since it noted this. Who has claimed the tile that is awaited
-    /// rings when it hands it in or gives it back; who has aimed at it and not claimed it yet goes on to claim it, or ends.
-    pub(crate) fn wait_for_builds<R: Wait>(&self, rt: &R, heard: u64) {
-        self.builds.wait(rt, heard);
+    /// notifies it when it hands it in or gives it back; who has aimed at it and not claimed it yet goes on to claim it, or ends.
+    pub(crate) fn wait_for_builds<R: Wait>(&self, rt: &R, epoch: u64) {
+        self.builds.wait(rt, epoch);
     }
 
     /// A worker that found no tile sleeps until one may have come since it noted this; says whether a lane was running. Where none has begun it
     /// pauses, since the lanes may run after it on the same thread; where all have ended it goes on at once.
-    pub(crate) fn wait_for_tiles<R: Wait>(&self, rt: &R, heard: u64) -> bool {
+    pub(crate) fn wait_for_tiles<R: Wait>(&self, rt: &R, epoch: u64) -> bool {
         // In this order, as `begin_lane` goes the other way.
         let ahead = self.ahead.load(Ordering::SeqCst) > 0;
         if self.running.load(Ordering::SeqCst) > 0 {
-            self.tiles.wait(rt, heard);
+            self.tiles.wait(rt, epoch);
             return true;
         }
         if ahead {
-            self.tiles.pause(rt, heard);
+            self.tiles.pause(rt, epoch);
         }
         false
     }

@@ -6,11 +6,11 @@ ghost use Rattle.turn_lock.specs.Locks.{LockId, IsOf};
 ghost use Rattle.nav_live.specs.Lanes.{CanStart, KeepsLane, BelongsTo};
 ghost use Rattle.nav_live.specs.Roots.{RootView};
 ghost use Rattle.nav_script.specs.declared.script.Line.TheVariants as lines;
-ghost use Rattle.nav_live.specs.Acting.{HasSettled};
 ghost use Rattle.nav_live.specs.Contexts.{IsContext};
 ghost use Rattle.nav_live.specs.LaneEntries.{Spoken};
 ghost use Rattle.nav_live.specs.LaneSteps.{HasRun, HasRunAll, IsRunnable};
 ghost use Rattle.nav_live.specs.Stops.{IsStopped, IsStoppedAt};
+ghost use Rattle.nav_live.specs.Waiting.{HasSettled};
 ghost use Rattle.nav_live.specs.LaneTexts.{said_text};
 
 use crate::book::{LiveBook, aim};
@@ -90,8 +90,8 @@ impl Lane {
 }
 
 impl Lane {
-    /// Has everything built that was asked for, and published. It ends once it has seen a published length that covers the lane's entries and
-    /// all that its eye has seen.
+    /// Has everything built that was asked for, and published. It ends once it was told a published list that has all that it aimed at, the
+    /// lane's entries, and all that its eye has seen.
     fn settle<R: Wait, G: Gate, L: Ledger>(
         &mut self,
         context: &RunContext<'_, R, G>,
@@ -102,13 +102,13 @@ impl Lane {
         ensures of { IsOf context.now.lock.now self.new.pass }
         ensures named { self.new.pass.number ≡ self.old.pass.number }
         ensures ran { (spoken : List Spoken) → KeepsLane context.now.lock.now spoken self.old → OnOk result (HasRun context.now.lock.now lines.Settle spoken self.new) }
-        ensures settled { OnOk result (HasSettled context.now.lock.now self.old.pass self.new.pass) }
+        ensures settled { OnOk result (HasSettled context.now.lock.now self.old self.new) }
     {
         let actor = Actor::Lane(self.number);
         for _ in context.rt.forever() {
-            aim(context, &mut self.pass);
+            let aimed = aim(context, &mut self.pass);
             let told = publish_all(context, &mut self.pass, actor, steps)?;
-            if self.settle_at(told)? {
+            if self.settle_at(aimed, told)? {
                 return Ok(());
             }
         }

@@ -10,6 +10,7 @@ ghost use Rattle.nav_live.specs.LaneEntries.{Spoken, request_of, added_by};
 ghost use Rattle.nav_live.specs.Lanes.{BelongsTo, IsToldOf, KeepsLane};
 ghost use Rattle.nav_live.specs.LaneSteps.{HasRun, HasNoted};
 ghost use Rattle.nav_live.specs.Stops.{IsStoppedAt};
+ghost use Rattle.nav_live.specs.Waiting.{HasLearnt};
 ghost use Rattle.nav_live.specs.LaneRecords.{number_after};
 ghost use Rattle.nav_base.specs.Point.{HasCoordinates};
 ghost use Rattle.agent_walks.specs.Walkers.{IsWalker};
@@ -78,16 +79,19 @@ impl Lane {
         self.last <= k && self.eye.seen() <= k
     }
 
-    /// Ends a `settle` where the published length covers the lane's entries and all that its eye has seen; says whether it did.
-    pub(crate) fn settle_at(&mut self, told: Told) -> Result<bool, AllocError>
+    /// Ends a `settle` where the published list has all that was aimed at, the lane's entries, and all that its eye has seen; says whether it
+    /// did.
+    pub(crate) fn settle_at(&mut self, aimed: u32, told: Told) -> Result<bool, AllocError>
         requires pair { told.pair ≡ self.old.eye.pair }
+        ensures covers { IfOk result (λ done. IsTrue done → aimed ≤ length told.entries) }
+        ensures learns { IfOk result (λ done. IsTrue done → HasLearnt told self.old self.new) }
         ensures ran { IfOk result (λ done. MatchBool done
             ((lock : LockId RootView) (spoken : List Spoken) → KeepsLane lock spoken self.old → IsToldOf lock told → HasRun lock lines.Settle spoken self.new)
             (self.new ≡ self.old)) }
         ensures pass { self.new.pass ≡ self.old.pass }
     {
         let k = told.length();
-        if !self.is_covered_by(k) {
+        if k < aimed || !self.is_covered_by(k) {
             return Ok(false);
         }
         self.eye.learn(told);

@@ -24,7 +24,6 @@ ghost use Rattle.std.specs.List.{enumerate_from, flat_map};
 use crate::actors::{Actors, ActorsLeft};
 use crate::start::{LaneInputs, lines_by_lane};
 use crate::{EventCount, LaneEnd, LiveBook, RunContext};
-use layer_cut::ground;
 use nav_base::{Question, Steps};
 use nav_book::Book;
 use nav_ground::{Entry, Field, Ground, Setting};
@@ -33,11 +32,11 @@ use nav_lists::Items;
 use nav_record::{write_entry, write_final, write_history, write_lane};
 use nav_script::{Line, Script};
 use nav_version::Eye;
+use parallel_build::{build_tiles_by, ground_by};
 use std::alloc::{AllocError, Global};
 use std::sync::ledger::Ledger;
 use std::sync::{Arc, Wait};
 use std::thread::Threads;
-use tile_build::build_tiles;
 use turn_lock::TurnLock;
 
 /// The text of a live run.
@@ -69,8 +68,8 @@ pub fn live<R: Threads + Wait + Sync, G: Gate + Sync, L: Ledger>(
     ensures most { HasRisenAtMost (2 * tile_count setting) steps.old steps.new }
 {
     let lists = lines_by_lane(alloc, script)?;
-    let level = ground(alloc, setting, field)?;
-    let tiles = build_tiles(alloc, &level, &[], steps)?;
+    let level = ground_by(rt, alloc, setting, field)?;
+    let tiles = build_tiles_by(rt, alloc, &level, &[], steps)?;
     let level = Arc::new(alloc, level)?;
     let shown = Arc::try_clone(&level)?;
     let (book, eyes) = Book::begin(rt, alloc, level, tiles, script.lanes)?;

@@ -1,19 +1,13 @@
 -- What an eye finds in a version that is shown.
-use Rattle.std.proofs.Common.{◌≡◌, ◌<◌, ℕ, List, length, sym, ap, ◌∙◌, subst, Result, Ok, Err}
-use Rattle.std.specs.Prelude.{All, IfOk, OnOk}
+use Rattle.std.proofs.Common.{◌≡◌, ◌<◌, List, length, sym, ap, ◌∙◌, subst}
+use Rattle.std.specs.Prelude.{All}
 use Rattle.std.specs.Arc.{arc_value}
 use mathlib.Core.List.{IsPrefix}
 use Rattle.nav_ground.specs.declared.history.Entry.{Entry}
 use Rattle.nav_ground.specs.declared.history.Ground.{Ground}
-use Rattle.nav_ground.specs.Grounds.{IsGround}
 use Rattle.nav_ground.specs.History.{IsRequest}
-use Rattle.nav_base.specs.declared.point.Question.{Question}
-use Rattle.mesh_types.specs.declared.answers.Answer.{Answer}
 use Rattle.mesh_types.specs.declared.mesh.Mesh.{Mesh}
 use Rattle.mesh_types.specs.Builds.{build_of}
-use Rattle.mesh_types.specs.Right.{IsRight}
-use Rattle.nav_query.specs.Questions.{HasLowCost, HasUnfoldedWay}
-use Rattle.nav_query.proofs.UnfoldedBuilds.{unfolded_answer}
 use Rattle.nav_version.specs.declared.version.PublishedVersion.{PublishedVersion}
 use Rattle.nav_version.specs.declared.version.Version.{Version}
 use Rattle.nav_version.specs.Lists.{ToldView}
@@ -54,11 +48,3 @@ module _ {A : Type 0} (right : Mesh → A → Type 0) where
         few = has.few;
         rules = subst (λ (g : Ground). KeepRules g found.0.entries) (sym same) has.rules;
       })
-
--- a right answer of an eye that has looked is unfolded
-pub unfolded_told : {E : Type 0} (told : Result (ℕ × Answer) E) (before after : EyeView) (question : Question)
-    → IfOk told (λ (t : ℕ × Answer). IsRight (build_of before.ground after.seen t.0) question t.1 × HasLowCost t.1) → OnOk told (HasLooked before after)
-    → IfOk told (λ (t : ℕ × Answer). HasUnfoldedWay t.1)
-unfolded_told (Ok t) before after question right looked =
-    unfolded_answer before.ground after.seen t.0 question t.1 (subst IsGround looked.ground looked.rules.level) looked.rules.requests right.0
-unfolded_told (Err refused) before after question right looked = tt

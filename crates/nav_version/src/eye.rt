@@ -15,7 +15,6 @@ use crate::version::{PublishedVersion, VersionReader};
 use core::mem::replace_with;
 use mesh_types::{Answer, Asked};
 use nav_base::Question;
-use nav_query::Asking;
 use std::alloc::{AllocError, Global};
 use std::marker::Model;
 
@@ -58,6 +57,26 @@ fn answered<Q: Asked>(
     }
     let answer = question.ask(alloc, shown.version.get().mesh.get())?;
     Ok((shown.told.again(), answer))
+}
+
+// The same for a question for floors, for a path or for a straight walk. It is answered by the landmarks of the version, where it has some.
+fn answered_by_landmarks(
+    alloc: Global,
+    shown: &PublishedVersion,
+    question: &Question,
+    seen: &Told,
+) -> Result<(Told, Answer), AllocError>
+    requires question { IsAnswerable question.now }
+    requires shown { IsShown shown.now }
+    requires pair { seen.now.pair ≡ shown.now.told.pair }
+    ensures { IfOk result (HasFound (λ mesh answer. IsRight mesh question.now answer × HasLowCost answer) (arc_value shown.now.version.ground) seen.now) }
+{
+    if shown.told.goes_on(seen) {
+        let answer = shown.version.get().mesh.ask(alloc, question)?;
+        Ok((shown.told.again(), answer))
+    } else {
+        Err(AllocError)
+    }
 }
 
 // A further owner of what is shown now. The reader is inside only while it takes that. It is refused where the count of owners has reached
@@ -128,12 +147,11 @@ impl Eye {
         // After a refusal the eye has looked all the same, or nothing has changed.
         ensures refused { OnErr result (HasLooked self.old self.new ⊎ (self.new ≡ self.old)) }
     {
-        self.ask_by(
-            alloc,
-            &Asking {
-                question: *question,
-            },
-        )
+        let shown = replace_with(&mut self.reader, (), look)?;
+        let (told, answer) = answered_by_landmarks(alloc, &shown, question, &self.told)?;
+        let k = told.length();
+        self.told = told;
+        Ok((k, answer))
     }
 
     /// The length of a published version, and an answer to a question of any kind that is right in its mesh. What `ask` says of the version,

@@ -10,9 +10,10 @@ use crate::entries::PublishedHistory;
 use crate::eye::Eye;
 use crate::rule::Told;
 use crate::version::{HeldVersion, PublishedVersion, Version};
-use mesh_types::{Mesh, TileMesh};
+use mesh_types::TileMesh;
 use nav_ground::{Entry, Reply, Request, Shape, TileNo};
 use nav_lists::{Items, Shared};
+use nav_query::PreparedMesh;
 use std::alloc::{AllocError, Global};
 use std::marker::Model;
 use std::sync::{Arc, Wait};
@@ -215,7 +216,7 @@ impl Press {
         rt: &R,
         alloc: Global,
         more: &[Entry],
-        mesh: Shared<Mesh>,
+        mesh: PreparedMesh,
     ) -> Result<Told, AllocError>
         requires { IsNext self.old.ground self.old.entries more.now mesh }
         ensures published { OnOk result (self.new ≡ record self.old { entries = self.old.entries ++ more.now }) }
@@ -311,7 +312,7 @@ pub(crate) fn next_version(
     alloc: Global,
     version: &Version,
     more: &[Entry],
-    mesh: Shared<Mesh>,
+    mesh: PreparedMesh,
 ) -> Result<Shared<Version>, AllocError>
     requires version { IsVersion version.now }
     requires next { IsNext (arc_value version.now.ground) version.now.entries more.now mesh }
@@ -331,16 +332,17 @@ pub(crate) fn next_version(
     )?)
 }
 
-/// The mesh that a patch leaves: that of a version with the tiles of the patch in place. The two share all others.
+/// The mesh that a patch leaves: that of a version with the tiles of the patch in place. The two share all others. It has no landmarks.
 pub(crate) fn patched(
     alloc: Global,
     version: &Version,
     patch: &Patch,
-) -> Result<Shared<Mesh>, AllocError>
+) -> Result<PreparedMesh, AllocError>
     requires version { IsVersion version.now }
     requires patch { IsPatch (arc_value version.now.ground) version.now.entries patch.now }
     ensures { IfOk result (IsNext (arc_value version.now.ground) version.now.entries patch.now.entries) }
 {
     let mesh = replaced(alloc, version.mesh.get(), patch.tiles.as_slice())?;
-    Ok(Shared::new(alloc, mesh)?)
+    let shared = Shared::new(alloc, mesh)?;
+    Ok(PreparedMesh::new(shared))
 }

@@ -11,20 +11,20 @@ use core::mem::replace_with;
 use left_right::Absorb;
 use left_right::reader::Reader;
 use left_right::writer::Writer;
-use mesh_types::Mesh;
 use nav_ground::Ground;
 use nav_lists::Shared;
+use nav_query::PreparedMesh;
 use std::alloc::{AllocError, Global};
 use std::marker::Model;
 use std::sync::{Arc, Wait};
 
 /// A ground, the entries of its history so far, the oldest first, and the mesh of the ground with the obstacles that are alive after them.
-/// The number of the entries is the version's length. The mesh may have other owners.
+/// The number of the entries is the version's length. The mesh may have other owners, and landmarks.
 #[derive(Drop)]
 pub struct Version {
     pub ground: Arc<Ground>,
     pub entries: Entries,
-    pub mesh: Shared<Mesh>,
+    pub mesh: PreparedMesh,
 }
 
 type VersionWriter = Writer<PublishedVersion, PublishedVersion, Option<PublishedVersion>, Versions>;

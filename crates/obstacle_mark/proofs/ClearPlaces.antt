@@ -99,7 +99,7 @@ areas_crowded layer shapes some =
     (if b then false else not (list_any (is_same_place cell.at) (clear_places layer shapes))) || is_blocked shapes cell) shapes) layer.cells) (sym some)
 
 -- one of the places is that of a cell exactly where it has the cell's column and level
-any_by_number : (at : CellRef) (places : List CellRef) → IsPlace at → All IsPlace places
+pub any_by_number : (at : CellRef) (places : List CellRef) → IsPlace at → All IsPlace places
     → is_there (column_of at) at.level places ≡ list_any (is_same_place at) places
 any_by_number at places place each =
     list_any_same (λ (to : CellRef). column_of to == column_of at && at.level == to.level) (is_same_place at) places

@@ -9,3 +9,4 @@ pub mod ClearPlaces
 pub mod AwayPlaces
 pub mod SmallAreas
 pub mod AllFree
+pub mod NearLaws

@@ -1,12 +1,13 @@
 -- The free cells of a tile are those that shapes leave free of the whole field; and without shapes clearance changes none of them.
-use Rattle.std.proofs.Common.{◌≡◌, ℕ, Bool, true, false, List, [], map, filter, get_or, ap, ◌∙◌, sym, refl, inl, inr}
+use Rattle.std.proofs.Common.{◌≡◌, ℕ, ◌<◌, Bool, true, false, List, [], map, filter, get_or, ap, ◌∙◌, sym, subst, refl, inl, inr, arith}
 use Rattle.std.specs.Prelude.{◌&&◌, ◌||◌, ◌==◌, not, if◌then◌else◌, All, Contains}
-use Rattle.std.specs.List.{list_any}
+use Rattle.std.specs.List.{list_any, range_with_len}
 use Rattle.std.proofs.Math.Bool.{and-true}
 use Rattle.std.proofs.lemmas.Bool.{cases_Bool, and_parts, and_from, and_right, both_ways, false_from_ne_true, eqb-true, eq-eqb, not-true}
 use Rattle.std.proofs.lemmas.Simd.{map-map}
 use Rattle.std.proofs.lemmas.List.Elements.{All-map, All-filter, All-contains_itself, Contains-get_or, filter_agree, filter_passes}
 use Rattle.std.proofs.lemmas.List.Folds.{list_any_none}
+use Rattle.std.proofs.lemmas.List.FromFn.{length-map-range_with_len, get_or-map-range_with_len}
 use Rattle.nav_ground.specs.declared.setting.Setting.{Setting}
 use Rattle.nav_ground.specs.declared.field.Field.{Field}
 use Rattle.nav_ground.specs.declared.cell.Cell.{Cell}
@@ -17,17 +18,20 @@ use Rattle.nav_ground.specs.declared.shape.Shape.{Shape}
 use Rattle.nav_ground.specs.Limits.{IsSetting}
 use Rattle.nav_ground.specs.Fields.{IsField}
 use Rattle.nav_ground.specs.Cells.{IsCompact}
-use Rattle.nav_ground.specs.Tiling.{tile_window, widened, is_in_window}
+use Rattle.nav_ground.specs.Tiling.{tile_count, tile_window, widened, is_in_window}
+use Rattle.nav_ground.specs.Grounds.{IsGround}
+use Rattle.nav_ground.specs.declared.history.Ground.{Ground}
 use Rattle.nav_ground.specs.Clearance.{is_kept, kept_cells, places_of, cells_in}
-use Rattle.nav_ground.specs.FreeCells.{is_blocked, is_unblocked, is_same_place, is_taken, free_cell_of, free_layer_of}
+use Rattle.nav_ground.specs.FreeCells.{is_blocked, is_unblocked, is_crowded, is_same_place, is_taken, free_cell_of, free_layer_of}
 use Rattle.nav_ground.proofs.Words.{is_free}
-use Rattle.nav_ground.specs.Layers.{cells_of, layer_cell, layer_of}
+use Rattle.nav_ground.specs.Layers.{cells_of, layer_cell, layer_of, layers_of}
 use Rattle.nav_ground.specs.WholeFree.{whole_free}
 use Rattle.nav_ground.proofs.FreeLayers.{same_at_place, same_place}
 use Rattle.nav_ground.proofs.LayerLaws.{cells_rules}
 use Rattle.nav_ground.proofs.Locality.{free_cells_same}
 use Rattle.nav_ground.proofs.Selections.{any_of, list_any-filter, list_any-map, filter-filter, filter-map, filter_all, filter_same}
 use Rattle.agent_erode.proofs.WindowLaws.{deep_inside, inside_deep, kept_near}
+use Rattle.obstacle_mark.specs.Near.{KeepsRadius}
 use Rattle.obstacle_mark.proofs.FewerCells.{kept_among_all}
 
 both_orders : (a b : Bool) → (a && b) ≡ (b && a)
@@ -216,6 +220,33 @@ none_taken window cells radius tile compact =
     k d there in
     not-true (is_taken layer [] cell)
     (free_here window cells compact [] radius tile cell of_kept.0 here ∙ ap (λ (cs : List Cell). is_kept cs radius cell) all ∙ of_kept.1))
+
+-- so the layers of a ground keep their radius
+crowded_of_taken : (crowded blocked : Bool) → (crowded || blocked) ≡ false → crowded ≡ false
+crowded_of_taken false blocked is = refl
+crowded_of_taken true blocked is = absurd (both_ways false refl (sym is))
+
+keeps_by : (clear : Bool) (window : Window) (cells : List Cell) (radius tile : ℕ) → IsCompact cells → KeepsRadius (layer_by clear window cells radius tile)
+keeps_by true window cells radius tile compact = λ k d there.
+    let layer = layer_by true window cells radius tile in
+    let cell : Cell = get_or layer.cells k d in
+    crowded_of_taken (is_crowded layer [] cell) (is_blocked [] cell) (none_taken window cells radius tile compact k d there)
+keeps_by false window cells radius tile compact = λ k d there. refl
+
+pub layer_keeps : (setting : Setting) (field : Field) (tile : ℕ) → IsSetting setting → IsField field → KeepsRadius (layer_of setting field tile)
+unfolding layer_of
+layer_keeps setting field tile limits rules' =
+    keeps_by setting.clear (tile_window setting tile) (cells_of setting field) setting.agent.radius tile (cells_rules setting field limits rules')
+
+layers_keep : (setting : Setting) (field : Field) (count : ℕ) → IsSetting setting → IsField field → All KeepsRadius (map (layer_of setting field) (range_with_len 0 count))
+layers_keep setting field count limits rules' k d there =
+    let below : k < count = omega (arith, there, length-map-range_with_len (layer_of setting field) 0 count) in
+    subst KeepsRadius (sym (get_or-map-range_with_len (layer_of setting field) 0 count k k d below (omega arith))) (layer_keeps setting field k limits rules')
+
+pub KeepsRadius-from_ground : (ground : Ground) → IsGround ground → All KeepsRadius ground.layers
+unfolding layers_of
+KeepsRadius-from_ground ground rules' =
+    subst (All KeepsRadius) (sym rules'.layers) (layers_keep ground.setting ground.field (tile_count ground.setting) rules'.setting rules'.field)
 
 -- so the free layer is that of a setting that does not say clear
 plain_free : (clear : Bool) (window : Window) (cells : List Cell) (radius tile : ℕ) → IsCompact cells

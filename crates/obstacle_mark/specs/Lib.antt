@@ -1,3 +1,4 @@
 pub mod AreasLeft
 pub mod Columns
+pub mod Near
 pub mod Places

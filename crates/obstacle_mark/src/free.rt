@@ -49,12 +49,13 @@ fn free_layer(alloc: Global, layer: &Layer, shapes: &[Shape]) -> Result<FreeLaye
     if shapes.is_empty() && layer.radius == 0 {
         all_cells(alloc, layer)
     } else {
-        cells_left(alloc, layer, shapes)
+        let areas = areas_clear(alloc, layer, shapes)?;
+        cells_left(alloc, layer, shapes, areas.as_slice())
     }
 }
 
 /// All cells of a layer.
-fn all_cells(alloc: Global, layer: &Layer) -> Result<FreeLayer, AllocError>
+pub fn all_cells(alloc: Global, layer: &Layer) -> Result<FreeLayer, AllocError>
     ensures { IfOk result (λ free. free ≡ record { tile = layer.now.tile; cells = layer.now.cells }) }
 {
     Ok(FreeLayer {
@@ -63,16 +64,22 @@ fn all_cells(alloc: Global, layer: &Layer) -> Result<FreeLayer, AllocError>
     })
 }
 
-/// The cells of a layer that obstacles leave.
-fn cells_left(alloc: Global, layer: &Layer, shapes: &[Shape]) -> Result<FreeLayer, AllocError>
+/// The cells of a layer that obstacles leave, from the areas that they leave its cells with.
+pub fn cells_left(
+    alloc: Global,
+    layer: &Layer,
+    shapes: &[Shape],
+    areas: &[Option<u32>],
+) -> Result<FreeLayer, AllocError>
     requires layer { IsLayer layer.now }
     requires shapes { All IsShape shapes.now }
+    requires areas { areas.now ≡ map (area_left (is_taken layer.now shapes.now) shapes.now) layer.now.cells }
     ensures { IfOk result (λ free. free ≡ free_layer_of layer.now shapes.now) }
 {
+    let _ = shapes;
     let cells = layer.cells.get().as_slice();
-    let areas = areas_clear(alloc, layer, shapes)?;
-    let blocked = blocked_places(alloc, cells, areas.as_slice())?;
-    let free = free_cells(alloc, cells, areas.as_slice(), blocked.as_slice())?;
+    let blocked = blocked_places(alloc, cells, areas)?;
+    let free = free_cells(alloc, cells, areas, blocked.as_slice())?;
     Ok(FreeLayer {
         tile: layer.tile,
         cells: Items::from_vec(free),
@@ -172,7 +179,7 @@ fn is_plain(layer: &Layer) -> bool
 }
 
 /// The places of those cells that no obstacle blocks and that keep a radius among the cells that none blocks, in order.
-fn clear_places(
+pub fn clear_places(
     alloc: Global,
     wide: &[PackedCell],
     shapes: &[Shape],

@@ -6,6 +6,8 @@
 
 mod areas;
 mod free;
+mod near;
 mod places;
 
 pub use free::mark;
+pub use near::mark_kept;

@@ -14,3 +14,6 @@ mod FloodLoops
 mod MappedLists
 mod ReachLaws
 mod PlanParts
+mod FilteredMaps
+mod HeldLaws
+mod NearestLaws

@@ -1,7 +1,13 @@
 -- What stands at a place of a mapped list.
-use Rattle.std.proofs.Common.{◌≡◌, ℕ, zero, suc, List, [], ◌∷◌, map, refl, ap}
-use Rattle.std.specs.Prelude.{slice_get, Some}
+use Rattle.std.proofs.Common.{◌≡◌, ℕ, zero, suc, ◌<◌, List, [], ◌∷◌, map, refl, sym, subst, ap, ◌∙◌}
+use Rattle.std.specs.Prelude.{Contains, slice_get, Some}
+use Rattle.std.proofs.lemmas.List.{get_or-map, length-map}
 use Rattle.std.proofs.lemmas.Option.{none-some, same_Some}
+
+-- one of a list is one of the mapped list
+pub contains-mapped : {X Y : Type 0} (f : X → Y) (xs : List X) (x : X) → Contains xs x → Contains (map f xs) (f x)
+contains-mapped f xs x held =
+    (held.0, subst (λ (n : ℕ). held.0 < n) (sym (length-map xs f)) held.1, get_or-map f xs held.0 x (f x) held.1 ∙ ap f held.2)
 
 pub record IsMapped (X Y : Type 0) (f : X → Y) (xs : List X) (k : ℕ) (y : Y) : Type 0 where
   pub of : X

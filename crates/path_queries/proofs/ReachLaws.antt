@@ -1,5 +1,5 @@
 -- What the list of a search through a filter says of its goals.
-use Rattle.std.proofs.Common.{◌≡◌, ℕ, ◌+◌, ◌-◌, ◌<◌, ◌≤◌, ◌⊎◌, true, List, [], ◌∷◌, length, map, refl, sym, subst, ap, ◌∙◌, inl, inr, arith}
+use Rattle.std.proofs.Common.{◌≡◌, ℕ, ◌+◌, ◌<◌, ◌≤◌, ◌⊎◌, true, List, [], ◌∷◌, length, map, refl, sym, subst, ap, ◌∙◌, inl, inr, arith}
 use Rattle.std.specs.Prelude.{All, Contains, slice_get, Some}
 use Rattle.std.proofs.lemmas.Bool.{cases_eq, cases_lt}
 use Rattle.std.proofs.lemmas.Nat.{mul-le}
@@ -32,13 +32,8 @@ use Rattle.path_queries.specs.Searches.{IsSearchedThrough}
 use Rattle.path_queries.proofs.AllowedWalks.{moves-walk, open-or-lighter, taken-over, walk-cheapest}
 use Rattle.path_queries.proofs.CostLaws.{setting-with}
 use Rattle.path_queries.proofs.FilteredLinks.{held-link, held-on}
-use Rattle.path_queries.proofs.MappedLists.{get-mapped}
+use Rattle.path_queries.proofs.MappedLists.{contains-mapped, get-mapped}
 use Rattle.path_queries.proofs.Reaching.{allowed-steps, arc-link, arcs}
-
--- one of a list is one of the mapped list
-contains-mapped : {X Y : Type 0} (f : X → Y) (xs : List X) (x : X) → Contains xs x → Contains (map f xs) (f x)
-contains-mapped f xs x held =
-    (held.0, subst (λ (n : ℕ). held.0 < n) (sym (length-map xs f)) held.1, get_or-map f xs held.0 x (f x) held.1 ∙ ap f held.2)
 
 -- the one of a list of one
 pub only-one : (to at : PolyRef) → Contains (to ∷ []) at → to ≡ at
@@ -153,7 +148,12 @@ module _ (mesh : Mesh) (filter : Filter) (from : PolyRef) (goals : List PolyRef)
 
       -- else each costs at least what was seen
       pub beyond-seen : seen < 18446744073709551615 → IsBeyondSeen mesh filter from goals limits seen
-      beyond-seen some = record { beyond = beyond'; deep = by_end searched.explored.ended; limited = limited' searched.explored.ended }
+      beyond-seen some = record {
+        beyond = beyond';
+        deep = by_end searched.explored.ended;
+        limited = limited' searched.explored.ended;
+        past = past' searched.explored.ended;
+      }
         where
           beyond' : (goal : PolyRef) (links : List Link) → Contains goals goal → AllowedTo mesh filter.areas from links goal
               → seen ≤ cost_of (priced mesh filter) links
@@ -171,6 +171,12 @@ module _ (mesh : Mesh) (filter : Filter) (from : PolyRef) (goals : List PolyRef)
           limited' (inr (inl stopped)) = absurd (no-stop stopped)
           limited' (inr (inr (inl key))) = inl (omega (arith, key, some))
           limited' (inr (inr (inr count))) = inr (omega (arith, count, searched.explored.short, vertices-few mesh sound))
+
+          past' : HasEnded (map vertex_of goals) limits list seen → 8000000 < limits.count → limits.key < seen
+          past' (inl all) many = absurd (omega (arith, some, all))
+          past' (inr (inl stopped)) many = absurd (no-stop stopped)
+          past' (inr (inr (inl key))) many = key
+          past' (inr (inr (inr count))) many = absurd (omega (arith, count, many, searched.explored.short, vertices-few mesh sound))
 
           by_end : HasEnded (map vertex_of goals) limits list seen → IsDeep mesh filter.areas from limits.key limits.count seen
           by_end (inl all) = absurd (omega (arith, some, all))

@@ -4,3 +4,5 @@ pub mod FilteredGraphs
 pub mod Floods
 pub mod Searches
 pub mod Reaches
+pub mod NearestGoals
+pub mod HeldGoals

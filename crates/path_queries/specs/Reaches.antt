@@ -53,6 +53,8 @@ pub record IsBeyondSeen (mesh : Mesh) (filter : Filter) (first : PolyRef) (goals
       → seen ≤ cost_of (priced mesh filter) links
   pub deep : IsDeep mesh filter.areas first limits.key limits.count seen
   pub limited : ArePlanLimits limits.key limits.count
+  -- where the polygons are not limited, the cost is what it has passed
+  pub past : 8000000 < limits.count → limits.key < seen
 
 -- what is said of goals
 abbrev pub IsReach : Mesh → Filter → PolyRef → List PolyRef → Limits → Reach → Type 0

@@ -82,7 +82,7 @@ pub(crate) fn leads_on(mesh: &Mesh, areas: u64, start: PolyRef, at: PolyRef) -> 
 
 /// What a step costs from a point into a polygon with an extent: the distance to its middle, rounded up and at least 1, times the cost of
 /// its area.
-fn step_cost(costs: &[u32; AREAS], from: Point, to: Extent) -> u64
+pub fn step_cost(costs: &[u32; AREAS], from: Point, to: Extent) -> u64
     requires costs { AreCosts costs.now }
     requires from { IsInField from }
     requires to { IsBox to }

@@ -19,7 +19,7 @@ pub struct Filter {
 }
 
 /// Whether an area is open.
-pub(crate) fn is_open(areas: u64, area: u32) -> bool
+pub fn is_open(areas: u64, area: u32) -> bool
     requires { area < 64 }
     ensures { result ≡ Rattle.path_queries.specs.Filters.is_open areas area }
 {

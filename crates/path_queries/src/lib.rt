@@ -6,7 +6,8 @@
 //! areas open and no costs of its own it answers as `nav_query` does. A question may limit the cost and the polygons of the search; where a
 //! limit ends it, the answer says what each allowed walk to the goal costs at least. After Detour's `dtQueryFilter`, whose costs may also be
 //! less than 1.
-//! `flood` gives the polygons to which allowed walks lead within a cost, each with what the cheapest of them costs.
+//! `flood` gives the polygons to which allowed walks lead within a cost, each with what the cheapest of them costs. `nearest_goal` tells which
+//! of many goals the cheapest allowed walk leads to, by one search.
 //!
 //! Points are in sixteenths of a cell, heights in the unit of the floors.
 #![tactic(auto)]
@@ -14,11 +15,14 @@
 mod filtered_graph;
 mod filters;
 mod floods;
+mod nearest;
 mod plans;
 mod reach;
 mod searches;
 
-pub use filters::Filter;
+pub use filtered_graph::step_cost;
+pub use filters::{Filter, is_open};
 pub use floods::{FloodAnswer, FloodQuery, Flooded, flood};
 pub use mesh_types::PathFound;
-pub use plans::{PathQuery, PlanAnswer, plan};
+pub use nearest::{Goal, NearestAnswer, NearestQuery, nearest_goal};
+pub use plans::{PathQuery, PlanAnswer, plan, turns};

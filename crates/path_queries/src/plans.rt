@@ -141,7 +141,12 @@ fn cheapest_allowed(
 }
 
 /// The corners of a taut line from one place to another through the portals of links.
-fn turns(alloc: Global, from: Point, links: &[Link], to: Point) -> Result<Items<Corner>, AllocError>
+pub fn turns(
+    alloc: Global,
+    from: Point,
+    links: &[Link],
+    to: Point,
+) -> Result<Items<Corner>, AllocError>
     requires chain { IsChain from (portals_of links.now) to }
     requires few { length (portals_of links.now) < 4294967295 }
     requires coordinates { HasChainCoordinates from (portals_of links.now) to }

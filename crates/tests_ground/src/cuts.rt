@@ -6,6 +6,7 @@ ghost use Rattle.nav_ground.specs.Fields.{IsField};
 ghost use Rattle.nav_ground.specs.Grounds.{IsGround, IsSized};
 ghost use Rattle.nav_ground.specs.Limits.{IsSetting};
 ghost use Rattle.nav_ground.specs.Tiling.{tile_count};
+ghost use Rattle.obstacle_mark.specs.Near.{KeepsRadius};
 
 use crate::checks::same;
 use crate::rows::are_same;
@@ -327,6 +328,25 @@ pub(crate) fn flat_layer(rt: &impl Abort, alloc: Global) -> Result<Layer, AllocE
     let case = Case {
         side: 13,
         tile: 16,
+        clear: true,
+        ..FLAT
+    };
+    let field = field_of(alloc, &case)?;
+    let setting = setting_of(&case);
+    assert!(rt; keeps_rules(&field) && 0 < tiles(&setting));
+    let layer = layer(alloc, &field, &setting, 0)?;
+    Ok(layer)
+}
+
+/// The one layer of a flat field of 16 columns a side where agents keep a radius of 1, whose cells stand over the inner 12 by 12 columns.
+pub(crate) fn clear_layer(rt: &impl Abort, alloc: Global) -> Result<Layer, AllocError>
+    ensures rules { IfOk result IsLayer }
+    ensures kept { IfOk result KeepsRadius }
+{
+    let case = Case {
+        side: 16,
+        tile: 16,
+        radius: 1,
         clear: true,
         ..FLAT
     };

@@ -9,6 +9,8 @@ mod checks;
 #[cfg(test)]
 mod clear_marks;
 #[cfg(test)]
+mod clear_near;
+#[cfg(test)]
 mod connections;
 #[cfg(test)]
 mod cuts;

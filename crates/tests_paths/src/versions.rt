@@ -19,6 +19,7 @@ use mesh_types::{Answer, Mesh, TileMesh};
 use nav_base::{Question, Steps};
 use nav_ground::{AREAS, Agent, Entry, Ground, MeshKind, Reply, Request, Setting, Shape, TileNo};
 use nav_lists::{Items, Shared};
+use nav_query::PreparedMesh;
 use nav_version::{Entries, Eye, Patch, Press, Version, pair};
 use std::alloc::{AllocError, Global};
 use std::marker::Brand;
@@ -83,6 +84,13 @@ fn opening_mesh<L: Ledger>(
     joined(alloc, &level.setting, tiles)
 }
 
+/// A mesh as versions have it.
+fn prepared(alloc: Global, mesh: Mesh) -> Result<PreparedMesh, AllocError>
+    ensures { IfOk result (λ prepared. prepared ≡ mesh) }
+{
+    Ok(PreparedMesh::new(Shared::new(alloc, mesh)?))
+}
+
 /// The version of a ground without obstacles.
 pub(crate) fn opening<L: Ledger>(
     alloc: Global,
@@ -102,7 +110,7 @@ pub(crate) fn opening<L: Ledger>(
     Ok(Version {
         ground: Arc::new(alloc, level)?,
         entries: Entries::new(alloc)?,
-        mesh: Shared::new(alloc, mesh)?,
+        mesh: prepared(alloc, mesh)?,
     })
 }
 

@@ -1,3 +1,4 @@
+pub mod KeptLayers
 pub mod OneEdge
 pub mod OneWay
 pub mod NoneOverSides

@@ -1,8 +1,9 @@
 //! The build of one tile. All tiles of a ground.
 
-ghost use Rattle.std.specs.Prelude.{◌≡◌, ◌+◌, ◌⊎◌, IfOk, All, unwrap_or, length, OnOk, []};
+ghost use Rattle.std.specs.Prelude.{◌≡◌, ◌+◌, ◌⊎◌, IfOk, IsTrue, All, unwrap_or, length, OnOk, []};
 ghost use Rattle.nav_ground.specs.CellColumns.{AreOrdered};
-ghost use Rattle.nav_ground.specs.Cells.{IsCut, IsInTile};
+ghost use Rattle.nav_ground.specs.Cells.{IsCut, IsInTile, IsLayer};
+ghost use Rattle.nav_ground.specs.FreeCells.{free_layer_of};
 ghost use Rattle.nav_ground.specs.Grounds.{IsLayerOf, IsWideWithin, IsGround};
 ghost use Rattle.nav_ground.specs.Limits.{IsSetting, IsShape};
 ghost use Rattle.nav_ground.specs.Touching.{touching_shapes};
@@ -17,6 +18,7 @@ ghost use Rattle.nav_ground.specs.declared.cell.Layer.{Layer};
 ghost use Rattle.nav_ground.specs.Tiling.{tile_count};
 ghost use Rattle.nav_base.specs.Counts.{HasRisenAtMost};
 ghost use Rattle.mesh_types.specs.WholeMesh.{mesh_of};
+ghost use Rattle.obstacle_mark.specs.Near.{KeepsRadius};
 ghost use Rattle.tile_build.specs.Meshes.{tiles_of, tiles_under, plain_ground, HasSameParts};
 
 use contour_mesh::{ContourMesh, contour_mesh_over};
@@ -24,7 +26,7 @@ use mesh_types::TileMesh;
 use nav_base::Steps;
 use nav_ground::{FreeLayer, Ground, Layer, MeshKind, Setting, Shape};
 use nav_lists::{Items, Shared};
-use obstacle_mark::mark;
+use obstacle_mark::{mark, mark_kept};
 use std::alloc::{AllocError, Global};
 use std::sync::ledger::Ledger;
 use strip_mesh::{strip_mesh_of_table, strip_mesh_over};
@@ -52,10 +54,84 @@ pub fn build_tile<L: Ledger>(
     ensures listed { IfOk result (ListsCrossings setting.now) }
     ensures step { steps.new ≡ steps.old + 1 }
 {
+    built_tile(alloc, layer, setting, shapes, false, steps)
+}
+
+/// The same of a layer whose cells keep its radius where no shape stands, as those of the layers of a ground do. Where agents keep a radius from
+/// obstacles it takes less time, since only what lies near the shapes is looked at for it.
+pub fn build_kept_tile<L: Ledger>(
+    alloc: Global,
+    layer: &Layer,
+    setting: &Setting,
+    shapes: &[Shape],
+    steps: &mut Steps<L>,
+) -> Result<TileMesh, AllocError>
+    requires setting { IsSetting setting.now }
+    requires layer { IsLayerOf setting.now layer.now }
+    requires shapes { All IsShape shapes.now }
+    requires kept { KeepsRadius layer.now }
+    ensures value { IfOk result (λ tile. tile ≡ tile_mesh_of setting.now layer.now shapes.now) }
+    ensures local { (layer.now.radius ≡ 0) ⊎ IsWideWithin setting.now layer.now
+        → IfOk result (λ tile. tile ≡ tile_mesh_of setting.now layer.now (touching_shapes setting.now layer.now.tile shapes.now)) }
+    ensures fit { IfOk result (IsFit setting.now) }
+    ensures cover { IfOk result (λ tile. IsOfStrips setting.now tile → CoversCells tile) }
+    ensures linked { IfOk result (λ tile. IsOfStrips setting.now tile → LinksConnected tile) }
+    ensures facing { IfOk result (λ tile. IsOfOutlines setting.now tile → LinksFacing setting.now tile) }
+    ensures back { IfOk result (λ tile. AreTwoWay tile.links) }
+    ensures listed { IfOk result (ListsCrossings setting.now) }
+    ensures step { steps.new ≡ steps.old + 1 }
+{
+    built_tile(alloc, layer, setting, shapes, true, steps)
+}
+
+/// The mesh of a layer of which it may be known that its cells keep its radius.
+fn built_tile<L: Ledger>(
+    alloc: Global,
+    layer: &Layer,
+    setting: &Setting,
+    shapes: &[Shape],
+    keeps: bool,
+    steps: &mut Steps<L>,
+) -> Result<TileMesh, AllocError>
+    requires setting { IsSetting setting.now }
+    requires layer { IsLayerOf setting.now layer.now }
+    requires shapes { All IsShape shapes.now }
+    requires kept { IsTrue keeps → KeepsRadius layer.now }
+    ensures value { IfOk result (λ tile. tile ≡ tile_mesh_of setting.now layer.now shapes.now) }
+    ensures local { (layer.now.radius ≡ 0) ⊎ IsWideWithin setting.now layer.now
+        → IfOk result (λ tile. tile ≡ tile_mesh_of setting.now layer.now (touching_shapes setting.now layer.now.tile shapes.now)) }
+    ensures fit { IfOk result (IsFit setting.now) }
+    ensures cover { IfOk result (λ tile. IsOfStrips setting.now tile → CoversCells tile) }
+    ensures linked { IfOk result (λ tile. IsOfStrips setting.now tile → LinksConnected tile) }
+    ensures facing { IfOk result (λ tile. IsOfOutlines setting.now tile → LinksFacing setting.now tile) }
+    ensures back { IfOk result (λ tile. AreTwoWay tile.links) }
+    ensures listed { IfOk result (ListsCrossings setting.now) }
+    ensures step { steps.new ≡ steps.old + 1 }
+{
     steps.tick();
-    let free = mark(alloc, layer, shapes)?;
+    let free = marked(alloc, layer, shapes, keeps)?;
     let tile = free_mesh(alloc, free, setting)?;
     over_layer(alloc, layer, tile)
+}
+
+/// The free cells of such a layer.
+fn marked(
+    alloc: Global,
+    layer: &Layer,
+    shapes: &[Shape],
+    keeps: bool,
+) -> Result<FreeLayer, AllocError>
+    requires layer { IsLayer layer.now }
+    requires shapes { All IsShape shapes.now }
+    requires kept { IsTrue keeps → KeepsRadius layer.now }
+    ensures free { IfOk result (λ free. free ≡ free_layer_of layer.now shapes.now) }
+    ensures rules { IfOk result (λ free. IsCut free.cells) }
+{
+    if keeps {
+        mark_kept(alloc, layer, shapes)
+    } else {
+        mark(alloc, layer, shapes)
+    }
 }
 
 /// The same mesh with its free cells as what they differ by from the cells of its layer.
@@ -146,6 +222,7 @@ fn built<L: Ledger>(
 ) -> Result<Vec<Shared<TileMesh>>, AllocError>
     requires setting { IsSetting setting.now }
     requires layers { All (IsLayerOf setting.now) layers.now }
+    requires kept { All KeepsRadius layers.now }
     requires shapes { All IsShape shapes.now }
     ensures tiles { IfOk result (λ tiles. tiles.items ≡ tiles_of setting.now shapes.now layers.now) }
     ensures steps { OnOk result (steps.new ≡ steps.old + length layers.now) }
@@ -153,7 +230,7 @@ fn built<L: Ledger>(
 {
     let mut tiles = Vec::with_capacity(alloc, layers.len())?;
     for layer in layers {
-        let tile = build_tile(alloc, layer, setting, shapes, steps)?;
+        let tile = build_kept_tile(alloc, layer, setting, shapes, steps)?;
         tiles.push(Shared::new(alloc, tile)?)?;
     }
     Ok(tiles)

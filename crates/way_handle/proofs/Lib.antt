@@ -1,1 +1,2 @@
 mod LinkLaws
+mod GoalLaws

@@ -3,3 +3,5 @@ pub mod Reading
 pub mod Planning
 pub mod Flooding
 pub mod Checking
+pub mod Nearing
+pub mod Followers

@@ -9,9 +9,13 @@
 mod checks;
 mod filters;
 mod floods;
+mod followers;
+mod nearest;
 mod plans;
 mod reading;
 
 pub use checks::{NavdKept, check};
 pub use floods::{NavdFlood, NavdReached, flood};
+pub use followers::{NavdFollower, follow};
+pub use nearest::{NavdGoal, NavdNearest, nearest_goal};
 pub use plans::{NavdPlan, plan};

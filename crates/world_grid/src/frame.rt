@@ -10,6 +10,7 @@ use crate::grid_step::GridStep;
 use crate::steps::{quantize, step_of};
 
 /// The sizes of a cell and a height unit, in the game's unit, and the corner of a field, in cells and height units from 0 of its numbers.
+#[repr(C)]
 #[derive(Clone, Copy)]
 pub struct Frame {
     /// 2^-10 to 2^10.
@@ -22,6 +23,7 @@ pub struct Frame {
 }
 
 /// A place in the game's numbers; y points up.
+#[repr(C)]
 #[derive(Clone, Copy)]
 pub struct WorldPoint {
     pub x: f32,
@@ -30,6 +32,7 @@ pub struct WorldPoint {
 }
 
 /// A frame, and the columns of its field along x and z.
+#[repr(C)]
 #[derive(Clone, Copy)]
 pub struct FramedField {
     pub frame: Frame,

@@ -9,6 +9,7 @@ use crate::grid_step::GridStep;
 use crate::steps::{quantize, step_of};
 
 /// A place, counted from the corner of a frame.
+#[repr(C)]
 #[derive(Clone, Copy, PartialEq, Eq, Debug)]
 pub struct FramePlace {
     /// Sixteenths of a cell.

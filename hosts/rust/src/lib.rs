@@ -12,6 +12,7 @@
 //! # Ok(())
 //! # }
 //! ```
+mod goals;
 mod heap;
 mod jobs;
 mod looks;
@@ -22,6 +23,7 @@ mod ways;
 
 use std::fmt;
 use std::ptr::null_mut;
+pub use goals::{Followed, Follower, Found, Nearest};
 pub use jobs::Job;
 pub use looks::{Obstacle, Shape};
 pub use places::{MeshPlace, Near};
@@ -221,7 +223,7 @@ impl Level {
         }
     }
 
-    /// Makes landmarks of what is published, by which paths are found sooner until something new is.
+    /// Makes landmarks of what is published, by which paths are found sooner.
     pub fn prepare(&mut self) -> Result<(), Error> {
         done((unsafe { sys::navd_prepare(&mut self.handle) }, 0)).map(drop)
     }

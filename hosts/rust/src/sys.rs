@@ -99,6 +99,83 @@ pub struct Polygon {
     pub index: u32,
 }
 
+/// A point of a game; y points up.
+#[repr(C)]
+#[derive(Clone, Copy, Default, Debug, PartialEq)]
+pub struct WorldPoint {
+    pub x: f32,
+    pub y: f32,
+    pub z: f32,
+}
+
+/// A place in a frame: x and z in sixteenths of a cell from its corner, y in height units.
+#[repr(C)]
+#[derive(Clone, Copy, Default, Debug, PartialEq, Eq)]
+pub struct FramePlace {
+    pub x: i32,
+    pub y: i32,
+    pub z: i32,
+}
+
+/// The sizes of a cell and a height unit, and the corner of a field, in cells and height units from 0 of the game's numbers.
+#[repr(C)]
+#[derive(Clone, Copy, Default, Debug, PartialEq)]
+pub struct Frame {
+    pub cell_size: f32,
+    pub cell_height: f32,
+    pub x: i32,
+    pub y: i32,
+    pub z: i32,
+}
+
+#[repr(C)]
+#[derive(Clone, Copy, Default, Debug, PartialEq)]
+pub struct FramedField {
+    pub frame: Frame,
+    pub width: u32,
+    pub depth: u32,
+}
+
+/// Height units over sixteenths of a cell; with a run of 0 nothing is too steep.
+#[repr(C)]
+#[derive(Clone, Copy, Default, Debug, PartialEq, Eq)]
+pub struct Slope {
+    pub rise: u32,
+    pub run: u32,
+    pub both_sides: u32,
+}
+
+#[repr(C)]
+#[derive(Clone, Copy, Default, Debug, PartialEq, Eq)]
+pub struct Setting {
+    pub width: u32,
+    pub depth: u32,
+    pub tile: u32,
+    pub height: u32,
+    pub climb: u32,
+    pub radius: u32,
+    pub error: u32,
+    pub contours: u32,
+    pub limit: u32,
+    pub clear: u32,
+}
+
+#[repr(C)]
+#[derive(Clone, Copy, Default, Debug, PartialEq)]
+pub struct Mesh {
+    pub frame: Frame,
+    pub slope: Slope,
+    pub setting: Setting,
+}
+
+/// A triangle that fails. 1: no such vertex; 2: a number is none; 3: outside; 4: an area above 63.
+#[repr(C)]
+#[derive(Clone, Copy, Default, Debug, PartialEq, Eq)]
+pub struct MeshFault {
+    pub place: usize,
+    pub kind: u32,
+}
+
 #[repr(C)]
 #[derive(Clone, Copy, Default, Debug, PartialEq, Eq)]
 pub struct Link {
@@ -266,6 +343,42 @@ pub struct Reached {
 }
 
 #[repr(C)]
+#[derive(Clone, Copy)]
+pub struct Goal {
+    pub at: Point,
+    pub y: u32,
+}
+
+#[repr(C)]
+#[derive(Clone, Copy, Default)]
+pub struct Nearest {
+    pub at: Point,
+    pub y: u32,
+    pub areas: u64,
+    pub most_cost: u64,
+    pub which: usize,
+    pub cost: u64,
+    pub seen: u64,
+    pub first: Polygon,
+    pub last: Polygon,
+    pub links: usize,
+}
+
+#[repr(C)]
+#[derive(Clone, Copy, Default)]
+pub struct Follower {
+    pub first: Polygon,
+    pub from: Point,
+    pub goal: Point,
+    pub far: u32,
+    pub ahead: u32,
+    pub link: usize,
+    pub polygon: Polygon,
+    pub at: Point,
+    pub y: u32,
+}
+
+#[repr(C)]
 #[derive(Clone, Copy, Default)]
 pub struct Place {
     pub polygon: Polygon,
@@ -330,6 +443,26 @@ extern "C" {
     ) -> u32;
     pub fn navd_cast_ray(level: *mut Handle, way: *const Way, ray: *mut Ray) -> u32;
     pub fn navd_count(level: *mut Handle, counts: *mut Counts) -> u32;
+    pub fn navd_frame_of(sizes: *const Frame, low: *const WorldPoint, high: *const WorldPoint, field: *mut FramedField) -> u32;
+    pub fn navd_quantize(
+        frame: *const Frame,
+        points: *const WorldPoint,
+        how_many: usize,
+        places: *mut FramePlace,
+        room: usize,
+        count: *mut usize,
+    ) -> u32;
+    pub fn navd_open_mesh(
+        level: *mut Handle,
+        mesh: *const Mesh,
+        vertices: *const f32,
+        numbers: usize,
+        corners: *const u32,
+        count: usize,
+        areas: *const u8,
+        area_count: usize,
+        fault: *mut MeshFault,
+    ) -> u32;
     pub fn navd_open_triangles(level: *mut Handle, text: *const u8, length: usize, fault: *mut Fault) -> u32;
     pub fn navd_find_hop(
         level: *mut Handle,
@@ -411,6 +544,24 @@ extern "C" {
         links_room: usize,
         turns: *mut Turn,
         turns_room: usize,
+    ) -> u32;
+    pub fn navd_view_nearest_goal(
+        view: *mut Handle,
+        nearest: *mut Nearest,
+        costs: *const u32,
+        costs_count: usize,
+        goals: *const Goal,
+        count: usize,
+        links: *mut Link,
+        room: usize,
+    ) -> u32;
+    pub fn navd_view_follow_path(
+        view: *mut Handle,
+        follower: *mut Follower,
+        links: *const Link,
+        count: usize,
+        turns: *const Turn,
+        turns_count: usize,
     ) -> u32;
     pub fn navd_view_nearest(view: *mut Handle, near: *const Near, place: *mut Place) -> u32;
     pub fn navd_view_height(view: *mut Handle, place: *mut Place) -> u32;

@@ -12,7 +12,7 @@ use Rattle.mesh_place.proofs.scan.in_tile.Goals as goal
 
 pub loop-i-init : goal.loop-i-init
 loop-i-init c =
-    passed c.args.mesh.now c.args.search.now.asked c.args.best (IsEarlier c.args.tile 0) c.requires.best
+    passed c.args.mesh.now c.args.asked.now c.args.best (IsEarlier c.args.tile 0) c.requires.best
     (λ other stands near one. no_earlier c.args.tile other one)
 
 pub in_polygon-nearest-requires-clause-listed : goal.in_polygon-nearest-requires-clause-listed
@@ -35,7 +35,7 @@ in_polygon-nearest-requires-clause-best c = c.loop-i.invariant.found
 pub loop-i-preserved : goal.loop-i-preserved
 loop-i-preserved c =
     let at : PolyRef = record { tile = c.args.tile; index = c.loop-i.i } in
-    more c.args.mesh.now c.args.search.now.asked c.args.best c.loop-i.nearest c.in_polygon-nearest.result (IsEarlier c.args.tile c.loop-i.i)
+    more c.args.mesh.now c.args.asked.now c.args.best c.loop-i.nearest c.in_polygon-nearest.result (IsEarlier c.args.tile c.loop-i.i)
     (λ (other : MeshPlace). other.polygon ≡ at) (IsEarlier c.args.tile (c.loop-i.i + 1)) c.loop-i.invariant c.in_polygon-nearest.ensures
     (λ other stands near one. next_polygon c.args.tile c.loop-i.i other one)
 
@@ -45,6 +45,6 @@ returns c =
     let tile = c.at.result.now in
     let there = slice_get_read mesh.tiles (length mesh.tiles) c.args.tile tile refl c.requires.there c.at.ensures in
     let polys = c.len-i-end.ensures ∙ ap (λ (d : TileMesh). length d.polys) c.get.ensures in
-    fewer mesh c.args.search.now.asked c.args.best c.loop-i.nearest (IsEarlier c.args.tile c.loop-i.i) (λ (other : MeshPlace). other.polygon.tile ≡ c.args.tile)
+    fewer mesh c.args.asked.now c.args.best c.loop-i.nearest (IsEarlier c.args.tile c.loop-i.i) (λ (other : MeshPlace). other.polygon.tile ≡ c.args.tile)
     c.loop-i.invariant
     (λ other stands near at. all_polygons mesh c.args.tile c.len-i-end.result c.loop-i.i tile there polys c.loop-i-test.false other stands at)

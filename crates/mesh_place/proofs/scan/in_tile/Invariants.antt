@@ -4,4 +4,4 @@ use Rattle.mesh_place.proofs.scan.in_tile.Given as goal
 
 -- what was found of the polygons so far
 abbrev pub invariant-loop-i : goal.invariant-loop-i
-invariant-loop-i l = IsFoundAmong l.mesh l.search.asked l.fn.best l.nearest (IsEarlier l.tile l.i)
+invariant-loop-i l = IsFoundAmong l.mesh l.asked l.fn.best l.nearest (IsEarlier l.tile l.i)

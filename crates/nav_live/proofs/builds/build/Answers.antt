@@ -1,14 +1,12 @@
-use Rattle.std.proofs.Common.{◌≡◌, ◌<◌, ◌∙◌, ap, subst, rules}
+use Rattle.std.proofs.Common.{◌≡◌, ◌<◌, ◌∙◌, ap, subst}
 use Rattle.nav_ground.specs.declared.history.Ground.{Ground}
 use Rattle.nav_ground.specs.Tiling.{tile_count}
 use Rattle.mesh_types.specs.declared.mesh.TileMesh.{TileMesh}
 use Rattle.build_queue.specs.declared.live.Job.{Job}
 use Rattle.build_queue.specs.Steps.{IsJob}
 use Rattle.nav_book.specs.Results.{tile_under}
-use Rattle.nav_live.specs.Acting.{HasActed}
 use Rattle.nav_live.specs.ActRules.{IsMade}
 use Rattle.nav_live.specs.Roots.{RootView}
-use Rattle.nav_live.specs.declared.book.LiveAct.TheVariants as acts
 use Rattle.nav_live.proofs.builds.build.Goals as goal
 
 -- what a job asks for is a build of the lock's ground
@@ -26,11 +24,3 @@ pub submit-requires-clause-made : goal.submit-requires-clause-made
 submit-requires-clause-made g c =
     is_made c.args.context.now.lock.now.root c.args.context.now.ground.now c.args.held c.in-Ok.mesh c.requires.context.level c.requires.job
     (subst (λ (job : Job). c.in-Ok.mesh ≡ tile_under c.args.context.now.ground.now job.tile job.shapes) c.job.ensures c.in-Ok.ensures.mesh)
-
-pub returns-in-Ok-clause-handed : goal.returns-in-Ok-clause-handed
-returns-in-Ok-clause-handed g c =
-    subst (λ (mesh : TileMesh). HasActed c.args.context.now.lock.now (acts.Submit (record { tile = c.args.held.tile; shapes = c.args.held.shapes; mesh = mesh })) c.args.pass.now c.submit.new.pass)
-    (subst (λ (job : Job). c.in-Ok.mesh ≡ tile_under c.args.context.now.ground.now job.tile job.shapes) c.job.ensures c.in-Ok.ensures.mesh) c.submit.ensures
-
-pub returns-in-Err-clause-back : goal.returns-in-Err-clause-back
-returns-in-Err-clause-back g c = search rules

@@ -22,7 +22,7 @@ replaced-requires-clause-news c =
 
 pub returns : goal.returns
 returns c =
-    let is = c.in_ok-new.ensures.ok in
-    IsNext-of_patch c.args.version.now c.args.patch.now c.as_slice.result.now c.in_ok-new.field-0 c.requires.version c.requires.patch
+    let is = c.new-2.ensures ∙ c.in_ok-shared.ensures.ok in
+    IsNext-of_patch c.args.version.now c.args.patch.now c.as_slice.result.now c.new-2.result c.requires.version c.requires.patch
     (is ∙ c.in_ok-mesh.ensures.mesh ∙ ap (λ (mesh : Mesh). mesh_of mesh.setting (tiles_after c.as_slice.result.now mesh.tiles)) c.get.ensures)
     c.as_slice.ensures.value (subst IsSound (sym is) c.in_ok-mesh.ensures.sound)

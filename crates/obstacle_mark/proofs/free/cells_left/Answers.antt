@@ -13,7 +13,7 @@ use Rattle.obstacle_mark.proofs.free.cells_left.Goals as goal
 
 pub blocked_places-requires : goal.blocked_places-requires
 blocked_places-requires c =
-    ap length (c.as_slice.ensures.value ∙ c.in_ok-areas.ensures)
+    ap length (c.requires.areas)
     ∙ length-map c.args.layer.now.cells (area_left (is_taken c.args.layer.now c.args.shapes.now) c.args.shapes.now)
     ∙ ap length (sym (c.as_slice-cells.ensures ∙ c.get.ensures))
 
@@ -22,33 +22,33 @@ free_cells-requires-clause-cells c = subst IsCells (sym (c.as_slice-cells.ensure
 
 pub free_cells-requires-clause-beside : goal.free_cells-requires-clause-beside
 free_cells-requires-clause-beside c =
-    ap length (c.as_slice-2.ensures.value ∙ c.in_ok-areas.ensures)
+    ap length (c.requires.areas)
     ∙ length-map c.args.layer.now.cells (area_left (is_taken c.args.layer.now c.args.shapes.now) c.args.shapes.now)
     ∙ ap length (sym (c.as_slice-cells.ensures ∙ c.get.ensures))
 
 pub free_cells-requires-clause-areas : goal.free_cells-requires-clause-areas
 free_cells-requires-clause-areas c =
-    small_areas c.args.layer.now c.args.shapes.now c.as_slice-2.result.now c.requires.layer.cells c.requires.shapes
-    (c.as_slice-2.ensures.value ∙ c.in_ok-areas.ensures)
+    small_areas c.args.layer.now c.args.shapes.now c.args.areas.now c.requires.layer.cells c.requires.shapes
+    (c.requires.areas)
 
 pub free_cells-requires-clause-blocked : goal.free_cells-requires-clause-blocked
 free_cells-requires-clause-blocked c =
     let taken = is_taken c.args.layer.now c.args.shapes.now in
-    let left = c.as_slice.ensures.value ∙ c.in_ok-areas.ensures ∙ ap (map (area_left taken c.args.shapes.now)) (sym (c.as_slice-cells.ensures ∙ c.get.ensures)) in
-    let blocked = c.as_slice-3.ensures.value ∙ c.in_ok-blocked.ensures.places taken c.args.shapes.now left in
+    let left = c.requires.areas ∙ ap (map (area_left taken c.args.shapes.now)) (sym (c.as_slice-cells.ensures ∙ c.get.ensures)) in
+    let blocked = c.as_slice.ensures.value ∙ c.in_ok-blocked.ensures.places taken c.args.shapes.now left in
     let rules' : IsCells c.as_slice-cells.result.now = subst IsCells (sym (c.as_slice-cells.ensures ∙ c.get.ensures)) c.requires.layer.cells.rules in
     subst ArePlaces (sym blocked) (blocked_are_places taken c.as_slice-cells.result.now rules')
 
 pub free_cells-requires-clause-few : goal.free_cells-requires-clause-few
-free_cells-requires-clause-few c = omega (arith, c.as_slice-3.ensures.len, c.in_ok-blocked.ensures.few)
+free_cells-requires-clause-few c = omega (arith, c.as_slice.ensures.len, c.in_ok-blocked.ensures.few)
 
 pub returns : goal.returns
 returns c =
     let shapes = c.args.shapes.now in
     let taken = is_taken c.args.layer.now shapes in
-    let left = c.in_ok-areas.ensures ∙ ap (map (area_left taken shapes)) (sym (c.as_slice-cells.ensures ∙ c.get.ensures)) in
+    let left = c.requires.areas ∙ ap (map (area_left taken shapes)) (sym (c.as_slice-cells.ensures ∙ c.get.ensures)) in
     ap (λ (cells : List Cell). record { tile = c.args.layer.now.tile; cells = cells })
     (c.from_vec.ensures
-    ∙ c.in_ok-free.ensures taken shapes (c.as_slice-2.ensures.value ∙ left)
-    (c.as_slice-3.ensures.value ∙ c.in_ok-blocked.ensures.places taken shapes (c.as_slice.ensures.value ∙ left))
+    ∙ c.in_ok-free.ensures taken shapes left
+    (c.as_slice.ensures.value ∙ c.in_ok-blocked.ensures.places taken shapes left)
     ∙ ap (λ (xs : List Cell). map (free_cell_of taken xs shapes) (filter (is_free c.args.layer.now shapes) xs)) (c.as_slice-cells.ensures ∙ c.get.ensures))

@@ -3,6 +3,7 @@ use Rattle.nav_ground.proofs.LayerLaws.{IsLayerOf-from_ground, length-layers_of_
 use Rattle.mesh_types.specs.declared.mesh.TileMesh.{TileMesh}
 use Rattle.mesh_types.specs.Builds.{mesh_under}
 use Rattle.mesh_types.specs.WholeMesh.{mesh_of}
+use Rattle.obstacle_mark.proofs.WholeFree.{KeepsRadius-from_ground}
 use Rattle.tile_build.specs.Meshes.{tiles_of, tiles_under, plain_ground, HasSameParts}
 use Rattle.tile_build.proofs.GroundTiles.{for_tiles}
 use Rattle.tile_build.proofs.PlainMeshes.{plain_parts}
@@ -10,6 +11,9 @@ use Rattle.tile_build.proofs.build.build_tiles.Goals as goal
 
 pub built-requires-clause-layers : goal.built-requires-clause-layers
 built-requires-clause-layers g c = rw c.as_slice.ensures (IsLayerOf-from_ground c.args.ground.now c.requires.level)
+
+pub built-requires-clause-kept : goal.built-requires-clause-kept
+built-requires-clause-kept g c = rw c.as_slice.ensures (KeepsRadius-from_ground c.args.ground.now c.requires.level)
 
 pub returns-in_err-tiles-clause-most : goal.returns-in_err-tiles-clause-most
 returns-in_err-tiles-clause-most g c = for_tiles c.args.ground.now _ _ _ c.requires.level c.as_slice.ensures c.built.ensures.most

@@ -8,9 +8,9 @@ use Rattle.nav_book.proofs.book.Book.first_pair.Goals as goal
 
 pub pair-requires : goal.pair-requires
 pair-requires g c =
-    opening_is (arc_value c.args.ground) (record { ground = c.args.ground; entries = c.in_ok-new.field-0; mesh = c.in_ok-shared_mesh.field-0 })
-    c.requires.ground (search rules) c.in_ok-new.ensures (c.in_ok-shared_mesh.ensures.value ∙ ap published_mesh c.requires.level)
-    c.in_ok-shared_mesh.ensures.sound
+    opening_is (arc_value c.args.ground) (record { ground = c.args.ground; entries = c.in_ok-new.field-0; mesh = c.in_ok-prepared_mesh.field-0 })
+    c.requires.ground (search rules) c.in_ok-new.ensures (c.in_ok-prepared_mesh.ensures.value ∙ ap published_mesh c.requires.level)
+    c.in_ok-prepared_mesh.ensures.sound
 
 pub returns-clause-eyes : goal.returns-clause-eyes
 returns-clause-eyes g c =

@@ -35,7 +35,7 @@ returns-in-Claim-clause-grows g c =
 pub returns-in-Claim-clause-did : goal.returns-in-Claim-clause-did
 returns-in-Claim-clause-did g c =
     subst (λ (act : LiveAct). Does (root_of c.args.self.now.book) c.args.self.now.book.state.history act c.claim.result c.claim.new.self.book.state.history) (sym c.in-Claim.is)
-    (((claim_keeps c.args.self.now.book c.claim.new.self.book c.claim.result c.claim.ensures.steps).1, c.claim.ensures.fits))
+    (((claim_keeps c.args.self.now.book c.claim.new.self.book c.claim.result c.claim.ensures.steps).1, c.claim.ensures.asks))
 
 pub returns-in-Claim-clause-step : goal.returns-in-Claim-clause-step
 returns-in-Claim-clause-step g c = subst (λ (act : LiveAct). Steps c.args.self.now.book act c.claim.result c.claim.new.self.book) (sym c.in-Claim.is) c.claim.ensures.steps

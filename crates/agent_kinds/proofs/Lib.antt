@@ -1,0 +1,11 @@
+pub mod AtOne
+pub mod Turns
+pub mod Places
+pub mod Commons
+pub mod Downwards
+pub mod Meshes
+pub mod Opened
+pub mod Built
+pub mod Published
+pub mod Shown
+pub mod Awaited

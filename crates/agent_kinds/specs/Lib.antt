@@ -1,0 +1,5 @@
+pub mod Kinds
+pub mod Firsts
+pub mod KindSteps
+pub mod KindOpenings
+pub mod Representation

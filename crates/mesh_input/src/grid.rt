@@ -1,0 +1,31 @@
+//! The grid of a level's field.
+ghost use Rattle.std.specs.Prelude.{◌≡◌, ℕ, ◌*◌, ◌^◌, ◌≤◌, ◌<◌};
+ghost use Rattle.std.specs.Int.RustNames.{unsigned_abs};
+ghost use Rattle.world_grid.specs.Grid.{length_of};
+
+use world_grid::GridStep;
+
+/// An axis of a field.
+#[derive(Clone, Copy)]
+pub struct MeshAxis {
+    /// What its whole numbers count.
+    pub step: GridStep,
+    /// A 256th of it, on which slopes are judged.
+    pub fine: GridStep,
+    /// Where the field begins, in steps from 0 of the game's numbers.
+    pub begin: i64,
+    /// The last number of a field.
+    pub last: u32,
+    ghost finer: { length_of step ≡ 256 * length_of fine },
+    ghost near: { unsigned_abs begin < 2 ^ 23 },
+    ghost few: { last ≤ 16384 },
+}
+
+/// The axes of a field: sixteenths of a cell along x and z, height units along y.
+#[derive(Clone, Copy)]
+pub struct MeshGrid {
+    pub x: MeshAxis,
+    pub y: MeshAxis,
+    pub z: MeshAxis,
+    ghost heights: { y.last ≤ 8190 },
+}

@@ -1,6 +1,0 @@
-use Rattle.mesh_place.specs.Searches.{IsFoundAmong, IsInRow}
-use Rattle.mesh_place.proofs.scan.in_row.Given as goal
-
--- what was found of the columns so far
-abbrev pub invariant-loop-x : goal.invariant-loop-x
-invariant-loop-x l = IsFoundAmong l.mesh l.search.asked l.fn.best l.nearest (IsInRow l.row l.part.at l.z l.x)

@@ -1,0 +1,3 @@
+mod Standings
+mod Ends
+mod Ahead

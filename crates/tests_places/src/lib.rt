@@ -1,0 +1,16 @@
+//! Tests of places on meshes: the nearest place, heights, and whether a place is one of the mesh.
+//!
+//! The tests use public calls alone, and compare them with tables that were worked out by hand. They stand apart from what they test,
+//! so that no crate is proved a second time with its tests.
+#![tactic(auto)]
+
+#[cfg(test)]
+mod fields;
+#[cfg(test)]
+mod heights;
+#[cfg(test)]
+mod meshes;
+#[cfg(test)]
+mod nearest;
+#[cfg(test)]
+mod rows;
