@@ -4,7 +4,7 @@
 set -u
 cd "$(dirname "$0")/.."
 [ -x crates/navd/out/navd ] || (cd crates/navd && rt run -- play < stdin > /dev/null) || exit 1
-[ $# -gt 0 ] || set -- nav_base turn_lock span_text funnel hops walks ground strips play paths clear readers
+[ $# -gt 0 ] || set -- nav_base turn_lock span_text funnel hops places walks ground strips play paths clear readers
 failed=
 for name in "$@"; do
     echo "== $name"
