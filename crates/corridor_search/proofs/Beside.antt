@@ -1,12 +1,12 @@
 -- Linked polygons stand in tiles whose squares touch: in one row of tiles, or in two that follow each other.
-use Rattle.std.proofs.Common.{◌≡◌, ℕ, ◌<◌, ◌≤◌, ◌+◌, ◌-◌, ◌*◌, ◌/◌, ◌%◌, min, ℤ, pos, ◌+ℤ◌, ◌*ℤ◌, ◌≤ℤ◌, List, [], length, get_or, refl, subst, add-mul, arith, inl, inr}
+use Rattle.std.proofs.Common.{◌≡◌, ℕ, ◌<◌, ◌≤◌, ◌+◌, ◌-◌, ◌*◌, ◌/◌, ◌%◌, min, ℤ, pos, ◌+ℤ◌, ◌*ℤ◌, ◌≤ℤ◌, List, [], length, get_or, refl, subst, ap, add-mul, arith, inl, inr}
 use Rattle.std.specs.Prelude.{All, Contains, Some, None, Option, slice_get}
 use Rattle.std.specs.Int.{abs_diff}
 use Rattle.std.specs.Option.{option_map_or}
 use Rattle.std.proofs.Math.Nat.{mul-le-mul_right}
 use Rattle.std.proofs.lemmas.Int.{ints}
 use Rattle.std.proofs.lemmas.Nat.{div-add-mod'}
-use Rattle.std.proofs.lemmas.Bool.{cases_lt}
+use Rattle.std.proofs.lemmas.Bool.{cases_lt, cases_order}
 use Rattle.std.proofs.lemmas.List.Elements.{All-contains, All-nil}
 use Rattle.std.proofs.lemmas.Option.{slice_get_within, get_or_from_slice_get}
 use Rattle.nav_ground.specs.declared.setting.Setting.{Setting}
@@ -20,6 +20,7 @@ use Rattle.mesh_types.specs.WholeMesh.{poly_at}
 use Rattle.mesh_types.specs.FitTiles.{IsInSquare}
 use Rattle.mesh_types.specs.Soundness.{IsCrossLink, IsSound}
 use Rattle.mesh_types.specs.Portals.{LeadsThrough}
+use Rattle.corridor_search.specs.Changes.{IsBeside}
 use Rattle.corridor_search.specs.Islands.{outer_of, IsFromInside, IsReached, AreFar}
 use Rattle.corridor_search.proofs.Boxes.{low, high, low-bound, high-bound, begin_on, end_on}
 use Rattle.corridor_search.proofs.Sound.{placed, tile-fit, tile-number, polygon-rules}
@@ -77,9 +78,36 @@ next_number a b row column line =
     let up : (a / row) * row ≤ (b / row + 1) * row = mul-le-mul_right row line in
     omega (arith, up, add-mul (b / row) 1 row, div-add-mod' a row, div-add-mod' b row, column)
 
+-- the places of two tiles in their rows, and the rows themselves, differ by no more than one
+record ArePlacedNear (row a b : ℕ) : Type 0 where
+  pub column_on : a % row ≤ b % row + 1
+  pub column_back : b % row ≤ a % row + 1
+  pub line_on : a / row ≤ b / row + 1
+  pub line_back : b / row ≤ a / row + 1
+
+-- then the one is beside the other by its number
+numbered_near : (row a b : ℕ) → ArePlacedNear row a b → IsBeside row b a
+numbered_near row a b near = record {
+  beside = elim (cases_order (a / row) (b / row)) [
+    | inl same ↦
+        let level : (a / row) * row ≡ (b / row) * row = ap (λ n. n * row) same in
+        inr (inl (record { near = omega (arith, level, div-add-mod' a row, div-add-mod' b row, near.column_on, near.column_back) }))
+    | inr apart ↦ elim apart [
+      | inl below ↦
+          let next : b / row ≡ a / row + 1 = omega (arith, below, near.line_back) in
+          let up : (b / row) * row ≡ (a / row + 1) * row = ap (λ n. n * row) next in
+          inl (record { near = omega (arith, up, add-mul (a / row) 1 row, div-add-mod' a row, div-add-mod' b row, near.column_on, near.column_back) })
+      | inr above ↦
+          let next : a / row ≡ b / row + 1 = omega (arith, above, near.line_on) in
+          let up : (a / row) * row ≡ (b / row + 1) * row = ap (λ n. n * row) next in
+          inr (inr (record { near = omega (arith, up, add-mul (b / row) 1 row, div-add-mod' a row, div-add-mod' b row, near.column_on, near.column_back) }))
+    ]
+  ];
+}
+
 module _ (mesh : Mesh) (link : Link) (sound : IsSound mesh) (setting : IsSetting mesh.setting) (through : LeadsThrough (poly_at mesh link.from) (poly_at mesh link.to) link) where
-  pub beside : abs_diff link.from.tile link.to.tile ≤ tiles_in_row mesh.setting + 1
-  beside =
+  placed_near : ArePlacedNear (tiles_in_row mesh.setting) link.from.tile link.to.tile
+  placed_near =
       let s = mesh.setting in
       let t = link.from.tile in
       let u = link.to.tile in
@@ -88,13 +116,23 @@ module _ (mesh : Mesh) (link : Link) (sound : IsSound mesh) (setting : IsSetting
       let in_to = edge_in_box through.enters through.into.edge p through.into.there (begin_on _ _ _ _ through.into.lies) in
       let from = held_in_tile mesh link.from through.leaves sound setting through.is_left in
       let to = held_in_tile mesh link.to through.enters sound setting through.is_entered in
-      let on = next_number t u (tiles_in_row s)
-      (next_place _ _ s.tile setting.tile_least (touch (corner_x s t) (corner_x s u) s.tile _ _ p.x from.left to.right in_from.left in_to.right))
-      (next_place _ _ s.tile setting.tile_least (touch (corner_z s t) (corner_z s u) s.tile _ _ p.z from.bottom to.top in_from.bottom in_to.top)) in
-      let back = next_number u t (tiles_in_row s)
-      (next_place _ _ s.tile setting.tile_least (touch (corner_x s u) (corner_x s t) s.tile _ _ p.x to.left from.right in_to.left in_from.right))
-      (next_place _ _ s.tile setting.tile_least (touch (corner_z s u) (corner_z s t) s.tile _ _ p.z to.bottom from.top in_to.bottom in_from.top)) in
+      record {
+        column_on = next_place _ _ s.tile setting.tile_least (touch (corner_x s t) (corner_x s u) s.tile _ _ p.x from.left to.right in_from.left in_to.right);
+        column_back = next_place _ _ s.tile setting.tile_least (touch (corner_x s u) (corner_x s t) s.tile _ _ p.x to.left from.right in_to.left in_from.right);
+        line_on = next_place _ _ s.tile setting.tile_least (touch (corner_z s t) (corner_z s u) s.tile _ _ p.z from.bottom to.top in_from.bottom in_to.top);
+        line_back = next_place _ _ s.tile setting.tile_least (touch (corner_z s u) (corner_z s t) s.tile _ _ p.z to.bottom from.top in_to.bottom in_from.top);
+      }
+
+  pub beside : abs_diff link.from.tile link.to.tile ≤ tiles_in_row mesh.setting + 1
+  beside =
+      let near = placed_near in
+      let on = next_number link.from.tile link.to.tile (tiles_in_row mesh.setting) near.column_on near.line_on in
+      let back = next_number link.to.tile link.from.tile (tiles_in_row mesh.setting) near.column_back near.line_back in
       omega (arith, on, back)
+
+  -- the tile that a link leaves is beside the one that it enters
+  pub leaves-beside : IsBeside (tiles_in_row mesh.setting) link.to.tile link.from.tile
+  leaves-beside = numbered_near (tiles_in_row mesh.setting) link.from.tile link.to.tile placed_near
 
 -- so no link over the border of a tile leads to an island whose tiles are all far from it
 pub outer-far : (mesh : Mesh) (island : List PolyRef) (tiles : List ℕ) (t : ℕ) → IsSound mesh → IsSetting mesh.setting → All (IsReached tiles) island

@@ -12,3 +12,4 @@ pub mod LeftAlone
 pub mod Alike
 pub mod Beside
 pub mod Gaps
+pub mod KeptLandmarks

@@ -41,16 +41,16 @@ pub(crate) struct BorderLink {
     pub(crate) weight: u32,
 }
 
-/// Heights for a mesh in which tiles were replaced, made of those that it had before: those of the new tiles' polygons are the greatest that
-/// the heights around allow, and others are mended where the new tiles made them too steep. None where there are no heights to begin with,
-/// where too many would have to be mended, or where fewer than half as many polygons of the new tiles are reached as before: where a whole
-/// island is new, nothing around it tells its heights.
+/// The rows of heights that are written anew for a mesh in which tiles were replaced, each tile's once, those of the new tiles first and in
+/// their order. The heights of the new tiles' polygons are the greatest that those around allow, and others are mended where the new tiles
+/// made them too steep. None where there are no heights to begin with, where too many would have to be mended, or where fewer than half as
+/// many polygons of the new tiles are reached as before: where a whole island is new, nothing around it tells its heights.
 pub(crate) fn keep(
     alloc: Global,
     old: &Rows,
     mesh: &Mesh,
     news: &[TileNo],
-) -> Result<Option<Rows>, AllocError> {
+) -> Result<Option<Vec<TileRows>>, AllocError> {
     if old.len() != mesh.tiles.len() {
         return Ok(None);
     }
@@ -63,7 +63,7 @@ pub(crate) fn keep(
     let mut rows = EditedRows::new(alloc, old)?;
     let before = seen(&rows, news);
     for tile in news {
-        rows.put(*tile as usize, unreached(alloc, mesh, *tile as usize)?)?;
+        rows.put(*tile, unreached(alloc, mesh, *tile as usize)?)?;
     }
     for tile in news {
         fill_tile(alloc, changes, &mut rows, *tile)?;
@@ -72,7 +72,7 @@ pub(crate) fn keep(
         return Ok(None);
     }
     if mend(alloc, changes, &mut rows)? {
-        Ok(Some(rows.into_rows(alloc)?))
+        Ok(Some(rows.written))
     } else {
         Ok(None)
     }
@@ -136,7 +136,7 @@ fn fill_tile(
             break;
         }
     }
-    rows.put(tile as usize, own)
+    rows.put(tile, own)
 }
 
 /// Lowers each row of a tile to what those allow to which ways lead, the first row first, or the last. Tells whether one was lowered.
@@ -194,9 +194,9 @@ pub(crate) struct EditedRows {
 
 /// The rows of one tile.
 #[derive(Drop)]
-struct TileRows {
-    tile: usize,
-    rows: Vec<[u32; LANDMARKS]>,
+pub(crate) struct TileRows {
+    pub(crate) tile: TileNo,
+    pub(crate) rows: Vec<[u32; LANDMARKS]>,
 }
 
 impl EditedRows {
@@ -246,14 +246,15 @@ impl EditedRows {
     }
 
     /// Puts rows for a tile in the place of those that it has.
-    fn put(&mut self, tile: usize, rows: Vec<[u32; LANDMARKS]>) -> Result<(), AllocError> {
-        if let Some(place) = self.place(tile) {
+    fn put(&mut self, tile: TileNo, rows: Vec<[u32; LANDMARKS]>) -> Result<(), AllocError> {
+        if let Some(place) = self.place(tile as usize) {
             self.written[place].rows = rows;
             return Ok(());
         }
-        if tile < self.places.len() {
+        let number = tile as usize;
+        if number < self.places.len() {
             self.written.push(TileRows { tile, rows })?;
-            self.places[tile] = low_half(self.written.len());
+            self.places[number] = low_half(self.written.len());
         }
         Ok(())
     }
@@ -269,7 +270,7 @@ impl EditedRows {
         let tile = at.tile as usize;
         if self.place(tile).is_none() {
             let rows = Vec::from_slice(alloc, self.rows(tile))?;
-            self.put(tile, rows)?;
+            self.put(at.tile, rows)?;
         }
         if let Some(place) = self.place(tile) {
             write(
@@ -280,19 +281,6 @@ impl EditedRows {
             );
         }
         Ok(())
-    }
-
-    /// All rows, of which those that were not written are shared with the rows as they were.
-    fn into_rows(self, alloc: Global) -> Result<Rows, AllocError> {
-        let mut made = self.old;
-        for tile in self.written {
-            made.set(
-                alloc,
-                tile.tile,
-                Shared::new(alloc, Items::from_vec(tile.rows))?,
-            )?;
-        }
-        Ok(made)
     }
 }
 

@@ -5,8 +5,10 @@ ghost use Rattle.nav_ground.specs.Limits.{IsSetting};
 ghost use Rattle.mesh_types.specs.Soundness.{IsSound};
 ghost use Rattle.mesh_types.specs.Corridors.{IsLinkOf};
 ghost use Rattle.corridor_search.specs.Islands.{inner_of, outer_of};
+ghost use Rattle.corridor_search.specs.Changes.{AreSameBut, DifferIn};
 ghost use Rattle.corridor_search.specs.Landmarks.{flat, heights_at, gap_of, are_alike, IsGentle, AreLandmarks};
 
+use crate::changed::{WrittenRows, are_gentle_around, have_tiles, with_rows};
 use crate::filling::fill;
 use crate::islands::{inner_of, outer_of};
 use crate::keeping::{Rows, keep};
@@ -129,26 +131,45 @@ pub fn landmarks_of(alloc: Global, mesh: &Mesh) -> Result<Landmarks, AllocError>
 pub fn kept_landmarks(
     alloc: Global,
     old: &Landmarks,
+    before: &Mesh,
     mesh: &Mesh,
     news: &[TileNo],
 ) -> Result<Option<Landmarks>, AllocError>
     requires sound { IsSound mesh.now }
     requires setting { IsSetting mesh.now.setting }
+    requires old { AreLandmarks before.now old.now }
+    requires differ { DifferIn news.now before.now mesh.now }
     ensures { IfOk result (λ kept. IfSome kept (AreLandmarks mesh.now)) }
 {
     match keep(alloc, &old.tiles, mesh, news)? {
-        Some(tiles) => Ok(tested(mesh, Landmarks { tiles })),
+        Some(written) => {
+            let made = with_rows(alloc, &old.tiles, written)?;
+            Ok(tested(old, before, mesh, news, made))
+        }
         None => Ok(None),
     }
 }
 
-/// Landmarks, if they are some of the mesh.
-fn tested(mesh: &Mesh, marks: Landmarks) -> Option<Landmarks>
+/// Landmarks of a mesh in which some tiles were replaced, if the rows that were written keep the rule along all links that touch their tiles.
+/// Along any other link it is kept, since the link was there before, with the same heights and the same weight.
+fn tested(
+    old: &Landmarks,
+    before: &Mesh,
+    mesh: &Mesh,
+    news: &[TileNo],
+    made: WrittenRows,
+) -> Option<Landmarks>
     requires sound { IsSound mesh.now }
     requires setting { IsSetting mesh.now.setting }
+    requires old { AreLandmarks before.now old.now }
+    requires differ { DifferIn news.now before.now mesh.now }
+    requires same { AreSameBut made.tiles.items old.now made.rows }
     ensures { IfSome result (AreLandmarks mesh.now) }
 {
-    if are_gentle(mesh, &marks) {
+    let WrittenRows { rows, tiles } = made;
+    let marks = Landmarks { tiles: rows };
+    let written = tiles.as_slice();
+    if have_tiles(written, news) && are_gentle_around(mesh, &marks, written) {
         Some(marks)
     } else {
         None
@@ -193,7 +214,7 @@ fn are_outer_gentle(mesh: &Mesh, marks: &Landmarks) -> bool
 }
 
 /// Whether it holds of some links.
-fn are_gentle_along(mesh: &Mesh, marks: &Landmarks, links: &[Link]) -> bool
+pub(crate) fn are_gentle_along(mesh: &Mesh, marks: &Landmarks, links: &[Link]) -> bool
     requires sound { IsSound mesh.now }
     requires setting { IsSetting mesh.now.setting }
     requires links { All (IsLinkOf mesh.now) links.now }
@@ -208,7 +229,7 @@ fn are_gentle_along(mesh: &Mesh, marks: &Landmarks, links: &[Link]) -> bool
 }
 
 /// Whether it holds of one link.
-fn is_gentle(mesh: &Mesh, marks: &Landmarks, link: &Link) -> bool
+pub(crate) fn is_gentle(mesh: &Mesh, marks: &Landmarks, link: &Link) -> bool
     requires sound { IsSound mesh.now }
     requires setting { IsSetting mesh.now.setting }
     requires link { IsLinkOf mesh.now link.now }

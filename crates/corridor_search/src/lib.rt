@@ -8,6 +8,7 @@
 //! What a search of one's own needs of the links stands here too: the vertices of polygons, the link that a step takes, what it weighs.
 #![tactic(auto)]
 
+mod changed;
 mod corridors;
 mod filling;
 mod islands;

@@ -3,3 +3,7 @@ mod NearestLaws
 mod PathParts
 mod CostSums
 mod TileReach
+mod WalkParts
+mod SpliceLaws
+mod RestLaws
+mod RepairLaws

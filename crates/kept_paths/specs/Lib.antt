@@ -1,2 +1,4 @@
 pub mod KeptPaths
 pub mod Beginnings
+pub mod Repairs
+pub mod Splices

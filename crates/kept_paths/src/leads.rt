@@ -93,7 +93,7 @@ fn first_on(mesh: &Mesh, areas: u64, links: &[Link], portal: Portal) -> Option<L
 }
 
 /// Whether a link enters a polygon of an open area.
-fn enters(mesh: &Mesh, areas: u64, link: &Link) -> bool
+pub(crate) fn enters(mesh: &Mesh, areas: u64, link: &Link) -> bool
     requires sound { IsSound mesh.now }
     ensures { IsTrue result ↔ Enters mesh.now areas link.now }
 {

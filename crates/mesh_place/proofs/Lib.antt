@@ -2,7 +2,8 @@ mod Spans
 mod Nearer
 mod Rows
 mod FloorPlaces
-mod Squares
+pub mod Squares
+pub mod HeldLaws
 mod LineParts
 mod SearchLaws
 mod ScanLaws

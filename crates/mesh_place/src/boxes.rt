@@ -10,8 +10,8 @@ use crate::near::{across, along};
 use mesh_types::{Extent, in_sixteenths};
 use nav_base::Point;
 
-/// The square of how far a point lies outside a box of whole cells.
-pub(crate) fn box_gap(extent: Extent, p: Point) -> u64
+/// The square of how far a point, in sixteenths of a cell, lies outside a box of whole cells; 0 for one inside.
+pub fn box_gap(extent: Extent, p: Point) -> u64
     requires low { IsCellCorner extent.low }
     requires high { IsCellCorner extent.high }
     requires point { HasCoordinates p }

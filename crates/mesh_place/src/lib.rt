@@ -2,7 +2,8 @@
 //!
 //! The floor at a point of a polygon is that of a cell of the polygon's storey: of the cell under the point, and where the outline of the
 //! polygon strays off its cells, of the nearest cell. `height` tells the highest such floor, and `is_place` whether a place is one of the
-//! mesh, so that a place which a later build took away is not answered from another floor. Neither takes memory.
+//! mesh, so that a place which a later build took away is not answered from another floor. `nearest_held` tells the whole point that a
+//! polygon holds nearest to a point. None of these takes memory.
 //!
 //! Points are in sixteenths of a cell, corners of polygons and columns in whole cells, heights in the unit of the floors.
 #![tactic(auto)]
@@ -13,6 +14,7 @@ mod columns;
 mod floors;
 mod guesses;
 mod heights;
+mod held_points;
 mod lines;
 mod near;
 mod nearest_place;
@@ -20,7 +22,9 @@ mod scan;
 mod storey_scan;
 mod tiles;
 
+pub use boxes::box_gap;
 pub use heights::{HeightAnswer, HeightAt, height, is_place};
+pub use held_points::nearest_held;
 pub use mesh_types::MeshPlace;
 pub use near::{Near, NearAnswer};
 pub use nearest_place::nearest;

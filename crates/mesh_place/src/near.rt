@@ -91,7 +91,8 @@ fn poly_order(a: PolyRef, b: PolyRef) -> Ordering
     a.tile.cmp(&b.tile).then(a.index.cmp(&b.index))
 }
 
-fn point_order(a: Point, b: Point) -> Ordering
+/// Which of two points comes first by x, then by z.
+pub(crate) fn point_order(a: Point, b: Point) -> Ordering
     ensures { result ≡ point_cmp a b }
 {
     a.x.cmp(&b.x).then(a.z.cmp(&b.z))

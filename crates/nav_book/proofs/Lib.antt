@@ -8,6 +8,7 @@ mod FreshLists
 pub mod StoredTiles
 pub mod KeptTiles
 pub mod Settled
+pub mod Differing
 pub mod StepLaws
 pub mod JobLaws
 mod ShownAnswers

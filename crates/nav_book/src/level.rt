@@ -268,7 +268,7 @@ impl Level {
     }
 
     /// The same, for one who asks much: the 24th path question that is so asked without landmarks makes some first, where memory for that is
-    /// left. Only memory for the answer is refused.
+    /// left, and each publish keeps them where it can. Only memory for the answer is refused.
     pub fn ask_and_prepare(
         &mut self,
         alloc: Global,

@@ -1,9 +1,11 @@
 //! The mesh that a level shows, with what was made of it to answer path questions sooner.
 
-ghost use Rattle.std.specs.Prelude.{◌≡◌, IfOk};
+ghost use Rattle.std.specs.Prelude.{◌≡◌, IfOk, map};
 ghost use Rattle.nav_ground.specs.Limits.{IsSetting};
 ghost use Rattle.mesh_types.specs.Right.{IsRight};
 ghost use Rattle.mesh_types.specs.Soundness.{IsSound};
+ghost use Rattle.tile_links.specs.NewTiles.{New};
+ghost use Rattle.corridor_search.specs.Changes.{DifferIn};
 ghost use Rattle.nav_query.specs.Questions.{HasLowCost, IsAnswerable};
 
 use mesh_types::{Answer, Mesh, TileMesh};
@@ -18,18 +20,11 @@ use std::marker::Model;
 /// question takes about a fifth of what it would: so a level that is asked little never pays for them.
 const PATHS_BEFORE_LANDMARKS: u32 = 24;
 
-/// From how many path questions of one mesh on a publish keeps its landmarks: to test them takes about as long as they save so many.
-const PATHS_THAT_PAY: u32 = 12;
-
 /// A mesh with its landmarks, and the path questions that were counted. Contracts see the mesh alone.
 #[derive(Drop)]
 pub(crate) struct PublishedMesh {
     mesh: PreparedMesh,
-    /// Whether landmarks were asked for, so that they are kept however few questions there are.
-    is_prepared: bool,
-    /// How many path questions this mesh was asked.
-    paths: u32,
-    /// How many path questions found no landmarks, of this mesh and of those before it, as far as each of them was asked enough.
+    /// How many path questions found no landmarks, of this mesh and of those before it.
     missed: u32,
 }
 
@@ -48,8 +43,6 @@ impl PublishedMesh {
     {
         PublishedMesh {
             mesh: PreparedMesh::new(mesh),
-            is_prepared: false,
-            paths: 0,
             missed: 0,
         }
     }
@@ -75,7 +68,7 @@ impl PublishedMesh {
         self.mesh.share()
     }
 
-    /// Another mesh, in which some tiles are new, with the landmarks of this one where they can be kept, and it pays.
+    /// Another mesh, which differs from this one in the new tiles at most, with the landmarks of this one where they can be kept.
     pub(crate) fn after(
         &self,
         alloc: Global,
@@ -84,13 +77,10 @@ impl PublishedMesh {
     ) -> PreparedMesh
         requires sound { IsSound mesh }
         requires setting { IsSetting mesh.setting }
+        requires differ { DifferIn (map (λ (new : New). new.0) news.now) self.now mesh }
         ensures { result ≡ mesh }
     {
-        if self.is_prepared || PATHS_THAT_PAY <= self.paths {
-            self.mesh.after(alloc, mesh, news)
-        } else {
-            PreparedMesh::new(mesh)
-        }
+        self.mesh.after(alloc, mesh, news)
     }
 
     /// Shows another mesh.
@@ -98,19 +88,14 @@ impl PublishedMesh {
         ensures { self.new ≡ mesh }
     {
         self.mesh = mesh;
-        if self.paths < PATHS_THAT_PAY {
-            self.missed = 0;
-        }
-        self.paths = 0;
     }
 
-    /// Makes landmarks of the mesh where there are none, and keeps them from now on. Where memory is refused, there are none still.
+    /// Makes landmarks of the mesh where there are none. Where memory is refused, there are none still.
     pub(crate) fn prepare(&mut self, alloc: Global) -> Result<(), AllocError>
         requires sound { IsSound self.old }
         requires setting { IsSetting self.old.setting }
         ensures { self.new ≡ self.old }
     {
-        self.is_prepared = true;
         self.mesh.prepare(alloc)
     }
 
@@ -122,7 +107,6 @@ impl PublishedMesh {
         ensures { self.new ≡ self.old }
     {
         if let Question::Path { .. } = *question {
-            self.paths = self.paths.saturating_add(1);
             if !self.mesh.has_landmarks() {
                 self.missed = self.missed.saturating_add(1);
             }

@@ -30,7 +30,7 @@ pub use jobs::{
     navd_put_back_all, navd_settle, navd_step, navd_submit,
 };
 pub use looking::{navd_border_links, navd_inner_links, navd_obstacles, navd_polygons};
-pub use meshes::{navd_frame_of, navd_open_mesh, navd_quantize};
+pub use meshes::{navd_dequantize, navd_frame_of, navd_open_mesh, navd_quantize};
 pub use opening::{navd_close, navd_open, navd_open_triangles, navd_renew};
 pub use places::{navd_view_height, navd_view_is_place, navd_view_nearest};
 pub use questions::{
@@ -45,4 +45,4 @@ pub use views::{
     navd_view_find_hop, navd_view_find_path, navd_view_floors, navd_view_inner_links,
     navd_view_march, navd_view_polygons, navd_view_send, navd_view_set_costs,
 };
-pub use ways::{navd_view_check_path, navd_view_flood, navd_view_plan};
+pub use ways::{navd_view_check_path, navd_view_flood, navd_view_plan, navd_view_repair_path};

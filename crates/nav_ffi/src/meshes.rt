@@ -3,11 +3,11 @@
 ghost use Rattle.std.specs.Prelude.{◌≡◌};
 ghost use Rattle.mesh_input.specs.Adding.{lists_of};
 ghost use Rattle.mesh_handle.specs.Frames.{IsFraming};
-ghost use Rattle.mesh_handle.specs.Points.{IsPlacing};
+ghost use Rattle.mesh_handle.specs.Points.{IsPlacing, IsPointing};
 ghost use Rattle.nav_ffi.specs.Meshes.{IsMeshOpening};
 
 use crate::opening::level_of;
-use mesh_handle::{NavdMesh, NavdMeshFault, end_mesh, field_of, frame_over, places_of};
+use mesh_handle::{NavdMesh, NavdMeshFault, end_mesh, field_of, frame_over, places_of, points_of};
 use nav_handle::{NO_MEMORY, NavdLevel, OK};
 use std::alloc::Global;
 use std::marker::Brand;
@@ -39,6 +39,19 @@ pub extern "C" fn navd_quantize(
     ensures { IsPlacing frame.now points.now places.old places.new count.new result }
 {
     places_of(frame, points, places, count)
+}
+
+/// Turns places of a frame into points of the game, one after the other, and leaves at `count` how many were turned.
+#[unsafe(no_mangle)]
+pub extern "C" fn navd_dequantize(
+    frame: &Frame,
+    places: &[FramePlace],
+    points: &mut [WorldPoint],
+    count: &mut usize,
+) -> u32
+    ensures { IsPointing frame.now places.now points.old points.new count.new result }
+{
+    points_of(frame, places, points, count)
 }
 
 /// Opens the level of a mesh: three numbers of `vertices` a vertex, three of `corners` a triangle, and one of `areas` a triangle, or none at

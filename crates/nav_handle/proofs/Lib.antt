@@ -2,3 +2,4 @@ mod Words
 mod Crossing
 pub mod Laying
 mod JumpLaws
+mod TwoWayViews

@@ -2,6 +2,7 @@
 use Rattle.std.specs.Prelude.{ℕ, List, Option, Some, None, ⊤}
 use Rattle.nav_ground.specs.Limits.{IsSetting}
 use Rattle.mesh_types.specs.declared.mesh.Mesh.{Mesh}
+use Rattle.mesh_types.specs.Passages.{IsTwoWay}
 use Rattle.mesh_types.specs.Soundness.{IsSound}
 use Rattle.build_queue.specs.BookState.{BookState}
 use Rattle.nav_book.specs.LevelResults.{published_mesh}
@@ -40,4 +41,5 @@ MayCost (Some costs) = AreCosts costs
 pub record IsView (inside : Inside) : Type 0 where
   pub sound : IsSound inside.mesh
   pub setting : IsSetting inside.mesh.setting
+  pub two_way : IsTwoWay inside.mesh
   pub own : MayCost inside.own

@@ -3,7 +3,9 @@
 ghost use Rattle.std.specs.Prelude.{◌≡◌};
 ghost use Rattle.nav_base.specs.declared.point.Question.{Question};
 ghost use Rattle.nav_query.specs.Questions.{IsAnswerable};
-ghost use Rattle.nav_handle.specs.Answers.{EndsSo, IsAsked};
+ghost use Rattle.path_queries.specs.Floods.{CanFlood};
+ghost use Rattle.path_queries.specs.FloodsBack.{IsRightFloodBack};
+ghost use Rattle.nav_handle.specs.Answers.{EndsSo, IsAsked, IsRepliedBy, seen_in};
 ghost use Rattle.nav_handle.specs.Telling.{PathRoom, told_floors, told_path, told_ray};
 ghost use Rattle.nav_handle.specs.Wire.{path_asked, ray_asked};
 ghost use Rattle.nav_handle.specs.Statuses as status;
@@ -15,6 +17,7 @@ use crate::wire::{
 };
 use mesh_types::{Answer, Asked};
 use nav_base::Question;
+use path_queries::{FloodAnswer, FloodQuery};
 use std::alloc::Global;
 
 /// A handle of something that has a mesh, or of nothing.
@@ -108,6 +111,26 @@ impl HasMesh for NavdView {
             return Err(EMPTY);
         };
         let told = held.ask_by(alloc, question);
+        self.put(held);
+        match told {
+            Ok(answer) => Ok(answer),
+            Err(_) => Err(NO_MEMORY),
+        }
+    }
+}
+
+impl NavdView {
+    /// The answer to the question from which polygons of what it shows a place is reached within a cost, or the status that says why there
+    /// is none.
+    pub fn flood_back(&mut self, alloc: Global, query: &FloodQuery) -> Result<FloodAnswer, u32>
+        requires { CanFlood query.now }
+        ensures same { self.new.view ≡ self.old.view }
+        ensures replied { IsRepliedBy (λ mesh answer. IsRightFloodBack query.now mesh answer) (seen_in self.old.view) result }
+    {
+        let Some(held) = self.take(alloc) else {
+            return Err(EMPTY);
+        };
+        let told = held.flood_back(alloc, query);
         self.put(held);
         match told {
             Ok(answer) => Ok(answer),

@@ -7,7 +7,10 @@ ghost use Rattle.nav_query.specs.Questions.{HasLowCost, IsAnswerable};
 ghost use Rattle.nav_handle.specs.Views.{AreCosts, seen_at, shown_by, shown_to};
 ghost use Rattle.std.specs.List.{list_all};
 ghost use Rattle.nav_ground.specs.Limits.{is_cost, IsSetting};
+ghost use Rattle.mesh_types.specs.Passages.{IsTwoWay};
 ghost use Rattle.mesh_types.specs.Soundness.{IsSound};
+ghost use Rattle.path_queries.specs.Floods.{CanFlood};
+ghost use Rattle.path_queries.specs.FloodsBack.{IsRightFloodBack};
 
 use mesh_types::{Answer, Asked, Mesh, copy_mesh};
 use nav_base::Question;
@@ -15,6 +18,7 @@ use nav_book::Level;
 use nav_ground::{AREAS, tiles};
 use nav_lists::Shared;
 use nav_query::Asking;
+use path_queries::{FloodAnswer, FloodQuery, flood_back};
 use std::alloc::{AllocError, Global};
 use std::marker::Model;
 
@@ -116,6 +120,14 @@ impl MeshView {
     {
         question.ask(alloc, self.mesh.get())
     }
+
+    /// A right answer to the question from which polygons a place is reached within a cost: the links of what a level shows lead there and back.
+    pub fn flood_back(&self, alloc: Global, query: &FloodQuery) -> Result<FloodAnswer, AllocError>
+        requires { CanFlood query.now }
+        ensures right { IfOk result (λ answer. IsRightFloodBack query.now self.now.mesh answer) }
+    {
+        flood_back(alloc, self.mesh.get(), query)
+    }
 }
 
 /// A mesh with other costs, which shares its tiles and lists of links with the one that is lent.
@@ -126,10 +138,12 @@ pub(crate) fn with_costs(
 ) -> Result<Mesh, AllocError>
     requires sound { IsSound mesh.now }
     requires setting { IsSetting mesh.now.setting }
+    requires two_way { IsTwoWay mesh.now }
     requires costs { AreCosts costs }
     ensures mesh { IfOk result (λ made. made ≡ Rattle.nav_handle.specs.Views.with_costs costs mesh.now) }
     ensures sound { IfOk result IsSound }
     ensures setting { IfOk result (λ made. IsSetting made.setting) }
+    ensures two_way { IfOk result IsTwoWay }
 {
     let mut made = copy_mesh(alloc, mesh)?;
     made.setting.costs = costs;

@@ -9,8 +9,10 @@ use Rattle.build_queue.specs.declared.live.Job.{Job}
 use Rattle.build_queue.specs.BookState.{BookState, IsBook, least_claimable, wanted_at}
 use Rattle.build_queue.specs.Steps.{IsJob, after_claim, next_job}
 use Rattle.nav_book.specs.Views.{BookView}
-use Rattle.nav_live.specs.ActRules.{IsJobOf}
+use Rattle.nav_live.specs.ActRules.{IsJobOf, IsTouched}
 use Rattle.nav_live.specs.Roots.{root_of}
+use Rattle.nav_live.specs.Touched.{AreTouched}
+use Rattle.nav_live.proofs.TouchedLaws.{job_touched}
 
 -- its shapes are those that touch its tile at the target
 wanted_shapes : (state : BookState) (job : Job) → Some job ≡ next_job state → job.shapes ≡ wanted_at state job.tile
@@ -23,9 +25,12 @@ wanted_shapes state job is = by_least (least_claimable state) is
         ap (λ (j : Job). j.shapes) same ∙ ap (wanted_at state) (sym (ap (λ (j : Job). j.tile) same))
 
 pub is_job_of : (book : BookView) (after : BookState) (job : Job) → Some job ≡ next_job book.state → IsJob book.state.ground.setting job
-    → after ≡ after_claim book.state → IsBook after → IsJobOf (root_of book) after.history job
-is_job_of book after job is fits claimed rules = record {
+    → after ≡ after_claim book.state → IsBook after → AreTouched book → IsJobOf (root_of book) after.history job
+is_job_of book after job is fits claimed rules touched = record {
   fit = fits;
+  touched =
+      subst (λ (history : List Entry). IsTouched book.state.ground history job.tile) (sym (ap (λ (s : BookState). s.history) claimed))
+      (job_touched book job (subst (λ (s : BookState). s.target ≤ length s.history) claimed rules.aimed) touched is);
   target = book.state.target;
   aimed = subst (λ (target : ℕ). target ≤ length after.history) (ap (λ (s : BookState). s.target) claimed) rules.aimed;
   shapes =

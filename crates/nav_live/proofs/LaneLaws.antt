@@ -39,7 +39,6 @@ use Rattle.nav_live.specs.declared.book.LiveDone.TheVariants as dones
 use Rattle.nav_live.specs.declared.lane.LineAnswer.{LineAnswer}
 use Rattle.nav_live.specs.declared.lane.LineAnswer.TheVariants.{Replied, Answered, Settled, Walked, NoWalker}
 use Rattle.nav_live.specs.LaneEntries.{Spoken, adds_of, adds_with, entries_made, entry_said, request_of}
-use Rattle.nav_live.specs.LaneWalkers.{Standing, IsMoved, standing_with}
 use Rattle.nav_live.specs.LaneRecords.{IsSaid, length_told, number_after}
 use Rattle.nav_live.specs.Lanes.{AreAnswers, AreEntries, BelongsTo, CanStart, KeepsLane, KeepsWalker, NotesLines, SawOthers}
 use Rattle.nav_live.specs.ActRules.{Does, IsLegal, lane_of}

@@ -8,6 +8,7 @@ mod ActorLaws
 mod EndLaws
 mod LeftLaws
 mod ActLaws
+mod TouchedLaws
 mod JobLaws
 pub mod EntryLaws
 pub mod AnswerLaws

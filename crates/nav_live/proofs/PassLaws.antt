@@ -1,6 +1,5 @@
 -- What a pass has seen after an act that asks nothing.
-use Rattle.std.proofs.Common.{◌≡◌, ◌≤◌, ◌∙◌, refl, sym, ap, subst, ⊎_elim, ℕ, List, Option, None, length, arith}
-use mathlib.Core.List.{IsPrefix}
+use Rattle.std.proofs.Common.{◌≡◌, ◌≤◌, ◌∙◌, refl, sym, ap, ⊎_elim, ℕ, List, Option, None, length, arith}
 use Rattle.turn_lock.specs.Growth.{Grows}
 use Rattle.turn_lock.specs.Locks.{Acts, IsOf, LockId, PassView}
 use Rattle.nav_ground.specs.declared.history.Entry.{Entry}

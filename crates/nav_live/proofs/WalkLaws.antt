@@ -18,11 +18,11 @@ use Rattle.nav_script.specs.declared.script.Line.{Line}
 use Rattle.nav_script.specs.declared.script.Line.TheVariants.{Send, March}
 use Rattle.nav_book.proofs.GroundTiles.{build_of-append}
 use Rattle.nav_live.specs.declared.lane.LineAnswer.{LineAnswer}
-use Rattle.nav_live.specs.declared.lane.LineAnswer.TheVariants.{Replied, Answered, Settled, Walked, NoWalker}
+use Rattle.nav_live.specs.declared.lane.LineAnswer.TheVariants.{Walked, NoWalker}
 use Rattle.nav_live.specs.LaneEntries.{Spoken}
 use Rattle.nav_live.specs.LaneWalkers.{Standing, AreMoved, IsMarchOf, IsMarchTold, IsMoved, IsSentTo, last_standing, standing_after, standing_of, standing_with}
 use Rattle.nav_live.specs.LaneRecords.{IsSaid}
-use Rattle.nav_live.specs.Lanes.{AreAnswers, IsThatWalker, IsWalkerOf, KeepsWalker}
+use Rattle.nav_live.specs.Lanes.{AreAnswers, IsWalkerOf, KeepsWalker}
 
 -- the length at which a walker was last placed is one of the history
 abbrev IsKnown : List Entry → Option Standing → Type 0

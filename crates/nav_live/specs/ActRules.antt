@@ -1,7 +1,8 @@
 -- What acts on a book under the lock are allowed, what they answer, and what they do to the history.
-use Rattle.std.specs.Prelude.{◌≡◌, ℕ, ◌≤◌, ⊤, List, [], ◌∷◌, ◌++◌, length, Option, Some, None, All}
+use Rattle.std.specs.Prelude.{◌≡◌, ℕ, ◌<◌, ◌≤◌, ⊤, List, [], ◌∷◌, ◌++◌, length, Option, Some, None, All}
 use mathlib.Core.List.{IsPrefix}
 use Rattle.nav_ground.specs.declared.history.Entry.{Entry}
+use Rattle.nav_ground.specs.declared.history.Ground.{Ground}
 use Rattle.nav_ground.specs.declared.history.Request.{Request}
 use Rattle.nav_ground.specs.declared.shape.Shape.{Shape}
 use Rattle.nav_ground.specs.History.{IsHistory, IsRequest, history_limit, shapes_alive}
@@ -54,16 +55,23 @@ DoesAim history (dones.Aim k) = k ≡ length history
 DoesAim history _ = ⊥
 
 -- the shapes that touch a tile of a ground after so many entries of a history
-abbrev pub touching_after : RootView → List Entry → ℕ → ℕ → List Shape
-touching_after root history k tile = touching_shapes root.ground.setting tile (shapes_alive history k)
+abbrev pub touching_after : Ground → List Entry → ℕ → ℕ → List Shape
+touching_after ground history k tile = touching_shapes ground.setting tile (shapes_alive history k)
 
--- a job is one that a history asks for: its tile is one of the ground, and its shapes are those that touch the tile after so many entries of the
--- history
+-- an obstacle touched a tile after some number of a history's entries
+pub record IsTouched (ground : Ground) (history : List Entry) (tile : ℕ) : Type 0 where
+  pub entries : ℕ
+  pub most : entries ≤ length history
+  pub some : 0 < length (touching_after ground history entries tile)
+
+-- a job is one that a history asks for: its tile is one of the ground, which some obstacle of the history touched, and its shapes are those that
+-- touch the tile after so many entries of the history
 pub record IsJobOf (root : RootView) (history : List Entry) (job : Job) : Type 0 where
   pub fit : IsJob root.ground.setting job
+  pub touched : IsTouched root.ground history job.tile
   pub target : ℕ
   pub aimed : target ≤ length history
-  pub shapes : job.shapes ≡ touching_after root history target job.tile
+  pub shapes : job.shapes ≡ touching_after root.ground history target job.tile
 
 -- a job that was claimed is one that the history asks for
 abbrev pub DoesClaim : RootView → List Entry → LiveDone → Type 0

@@ -13,6 +13,7 @@ pub mod Roots
 pub mod Contexts
 pub mod ActRules
 pub mod LiveBooks
+pub mod Touched
 pub mod Lanes
 pub mod LaneSteps
 pub mod Stops

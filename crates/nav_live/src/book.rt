@@ -4,17 +4,17 @@
 ghost use Rattle.std.specs.Prelude.{◌≡◌, IfOk, IfSome, length};
 ghost use mathlib.Core.List.{IsPrefix};
 ghost use Rattle.nav_ground.specs.History.{IsRequest};
-ghost use Rattle.nav_live.specs.ActRules.{DoesClaim, DoesPublish, IsJobOf, IsMade, Tells};
-ghost use Rattle.nav_live.specs.LiveBooks.{Steps, told_of};
-ghost use Rattle.nav_live.specs.Roots.{root_of};
-ghost use Rattle.nav_live.specs.declared.book.LiveAct.TheVariants as acts;
+ghost use Rattle.nav_ground.specs.declared.history.Ground.{Ground};
+ghost use Rattle.nav_live.specs.ActRules.{IsJobOf, IsMade, Tells};
 ghost use Rattle.turn_lock.specs.Locks.{IsOf};
+ghost use Rattle.build_queue.specs.BookState.{first_state};
 ghost use Rattle.build_queue.specs.Steps.{IsJob};
 ghost use Rattle.nav_live.specs.Lanes.{Covers, SawOthers};
 
+use crate::acts;
 use crate::builds::RunContext;
 use mesh_types::TileMesh;
-use nav_book::{Book, HistoryFull, Job, Published, Submitted, TileResult};
+use nav_book::{Book, Job, Published, Submitted, TileResult};
 use nav_ground::{Entry, Ground, Reply, Request};
 use nav_lists::Shared;
 use nav_version::Told;
@@ -79,56 +79,38 @@ pub enum LiveDone {
     NoMemory,
 }
 
-/// A book that one actor after another acts on. It is not `Drop`, since its book is not.
+/// A book that one actor after another acts on. A tile of it is stored with obstacles only where some obstacle has touched it.
+/// It is not `Drop`, since its book is not.
 pub struct LiveBook {
-    pub book: Book,
+    book: Book,
+}
+
+impl Model for LiveBook {
+    ghost use Rattle.nav_book.specs.Views.{BookView};
+    ghost use Rattle.nav_live.specs.Touched.{AreTouched};
+
+    ghost Value = { BookView };
+
+    ghost view = { λ live. live.book };
+
+    ghost invariant = { λ live. AreTouched live.book };
 }
 
 impl LiveBook {
-    /// Makes a request of a lane.
-    fn ask(&mut self, lane: u32, request: Request) -> LiveDone
-        requires { IsRequest request }
-        ensures { Steps self.old.book (acts.Ask lane request) result self.new.book }
+    /// The book that a run begins with.
+    pub(crate) fn new(book: Book) -> LiveBook
+        requires { (level : Ground) × (book.state ≡ first_state level) }
+        ensures { result ≡ book }
     {
-        match self.book.request(lane, request) {
-            Ok((number, reply)) => LiveDone::Asked { number, reply },
-            Err(HistoryFull { len }) => LiveDone::HistoryFull { len },
-        }
+        LiveBook { book }
     }
 
-    /// Claims a tile, if one waits.
-    fn claim(&mut self, alloc: Global) -> LiveDone
-        ensures steps { Steps self.old.book acts.Claim result self.new.book }
-        ensures asks { DoesClaim (root_of self.old.book) self.new.book.state.history result }
+    /// The book.
+    pub(crate) fn into_book(self) -> Book
+        ensures { result ≡ self }
     {
-        match self.book.claim(alloc) {
-            Ok(Some(job)) => LiveDone::Claimed { job },
-            Ok(None) => LiveDone::NoTile,
-            Err(AllocError) => LiveDone::NoMemory,
-        }
-    }
-
-    /// What is published, for an eye to learn: the history begins with it.
-    fn told(&self) -> Told
-        ensures told { result ≡ told_of self.now.book }
-        ensures length { length result.entries ≡ self.now.book.state.published }
-        ensures front { IsPrefix result.entries self.now.book.state.history }
-    {
-        self.book.told()
-    }
-
-    /// Publishes the target, and tells what is published then.
-    fn publish<R: Wait>(&mut self, rt: &R, alloc: Global) -> LiveDone
-        ensures steps { Steps self.old.book acts.Publish result self.new.book }
-        ensures tells { DoesPublish (root_of self.old.book) self.new.book.state.history result }
-    {
-        match self.book.publish(rt, alloc) {
-            Ok(answer) => LiveDone::Published {
-                answer,
-                told: self.told(),
-            },
-            Err(AllocError) => LiveDone::NoMemory,
-        }
+        let LiveBook { book } = self;
+        book
     }
 }
 
@@ -145,9 +127,9 @@ impl Booked for LiveBook {
 
     type Done = LiveDone;
 
-    ghost root = { λ live. root_of live.book };
+    ghost root = { root_of };
 
-    ghost entries = { λ live. live.book.state.history };
+    ghost entries = { λ book. book.state.history };
 
     ghost maker = { λ entry. entry.lane };
 
@@ -159,7 +141,7 @@ impl Booked for LiveBook {
 
     ghost did = { Does };
 
-    ghost step = { λ live act done after. Steps live.book act done after.book };
+    ghost step = { Steps };
 
     fn length(&self) -> u32 {
         // Its history keeps the rules, as that of each book does.
@@ -168,19 +150,7 @@ impl Booked for LiveBook {
     }
 
     fn act<R: Wait>(&mut self, rt: &R, alloc: Global, act: LiveAct) -> LiveDone {
-        match act {
-            LiveAct::Ask { lane, request } => self.ask(lane, request),
-            LiveAct::Aim => LiveDone::Aim { k: self.book.aim() },
-            LiveAct::Claim => self.claim(alloc),
-            LiveAct::PutBack { job } => {
-                self.book.put_back(job);
-                LiveDone::Back
-            }
-            LiveAct::Submit { made } => LiveDone::Submitted {
-                answer: self.book.submit(made),
-            },
-            LiveAct::Publish => self.publish(rt, alloc),
-        }
+        acts::act(&mut self.book, rt, alloc, act)
     }
 }
 

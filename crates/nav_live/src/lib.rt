@@ -12,6 +12,7 @@
 #![tactic(auto)]
 
 mod actors;
+mod acts;
 mod book;
 mod builds;
 mod event_count;

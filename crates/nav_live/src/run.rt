@@ -144,7 +144,7 @@ fn run_actors<R: Threads + Wait + Sync, G: Gate + Sync, L: Ledger>(
     let OpenedRun { book, eyes, lists } = opened;
     let events = EventCount::new(run.script.lanes);
     let count = run.script.lanes + run.script.workers;
-    match TurnLock::new(run.alloc, LiveBook { book }, count) {
+    match TurnLock::new(run.alloc, LiveBook::new(book), count) {
         Ok((lock, passes)) => {
             actors.make_actors(run.alloc, run.script, passes, LaneInputs { eyes, lists });
             let context = RunContext {
@@ -160,8 +160,7 @@ fn run_actors<R: Threads + Wait + Sync, G: Gate + Sync, L: Ledger>(
         }
         Err((live, refused)) => {
             actors.discard();
-            let LiveBook { book } = live;
-            book.end(run.rt);
+            live.into_book().end(run.rt);
             Err(refused)
         }
     }
@@ -188,7 +187,7 @@ fn end_run<R: Wait, G, L: Ledger>(
         mut eyes,
         texts,
     } = left;
-    let LiveBook { mut book } = lock.close(passes);
+    let mut book = lock.close(passes).into_book();
     let text = match end {
         Ok(()) => finish(run, &mut book, &mut eyes, texts, steps),
         Err(stop) => match stop {

@@ -1,9 +1,11 @@
 //! A mesh with what was made of it to answer path questions sooner.
 
-ghost use Rattle.std.specs.Prelude.{◌≡◌, IfOk, IfSome};
+ghost use Rattle.std.specs.Prelude.{◌≡◌, IfOk, IfSome, map};
 ghost use Rattle.nav_ground.specs.Limits.{IsSetting};
 ghost use Rattle.mesh_types.specs.Right.{IsRight};
 ghost use Rattle.mesh_types.specs.Soundness.{IsSound};
+ghost use Rattle.tile_links.specs.NewTiles.{New};
+ghost use Rattle.corridor_search.specs.Changes.{DifferIn};
 ghost use Rattle.corridor_search.specs.Landmarks.{AreLandmarks};
 ghost use Rattle.nav_query.specs.Questions.{HasLowCost, IsAnswerable};
 
@@ -90,8 +92,8 @@ impl PreparedMesh {
         Ok(())
     }
 
-    /// Another mesh, in which some tiles are new, with landmarks that are made of those that there are; without any where they cannot be
-    /// kept, or memory for them is refused.
+    /// Another mesh, which differs from this one in the new tiles at most, with landmarks that are made of those that there are; without any
+    /// where they cannot be kept, or memory for them is refused.
     pub fn after(
         &self,
         alloc: Global,
@@ -100,10 +102,11 @@ impl PreparedMesh {
     ) -> PreparedMesh
         requires sound { IsSound mesh }
         requires setting { IsSetting mesh.setting }
+        requires differ { DifferIn (map (λ (new : New). new.0) news.now) self.now mesh }
         ensures { result ≡ mesh }
     {
         let landmarks = match &self.landmarks {
-            Some(old) => kept(alloc, old.get(), mesh.get(), news),
+            Some(old) => kept(alloc, old.get(), self.mesh.get(), mesh.get(), news),
             None => None,
         };
         PreparedMesh { mesh, landmarks }
@@ -128,14 +131,17 @@ impl PreparedMesh {
 fn kept(
     alloc: Global,
     old: &Landmarks,
+    before: &Mesh,
     mesh: &Mesh,
     news: &[(TileNo, Shared<TileMesh>)],
 ) -> Option<Shared<Landmarks>>
     requires sound { IsSound mesh.now }
     requires setting { IsSetting mesh.now.setting }
+    requires old { AreLandmarks before.now old.now }
+    requires differ { DifferIn (map (λ (new : New). new.0) news.now) before.now mesh.now }
     ensures { IfSome result (AreLandmarks mesh.now) }
 {
-    match try_keep(alloc, old, mesh, news) {
+    match try_keep(alloc, old, before, mesh, news) {
         Ok(kept) => kept,
         Err(_) => None,
     }
@@ -145,19 +151,30 @@ fn kept(
 fn try_keep(
     alloc: Global,
     old: &Landmarks,
+    before: &Mesh,
     mesh: &Mesh,
     news: &[(TileNo, Shared<TileMesh>)],
 ) -> Result<Option<Shared<Landmarks>>, AllocError>
     requires sound { IsSound mesh.now }
     requires setting { IsSetting mesh.now.setting }
+    requires old { AreLandmarks before.now old.now }
+    requires differ { DifferIn (map (λ (new : New). new.0) news.now) before.now mesh.now }
     ensures { IfOk result (λ kept. IfSome kept (AreLandmarks mesh.now)) }
+{
+    let tiles = numbers(alloc, news)?;
+    match kept_landmarks(alloc, old, before, mesh, tiles.as_slice())? {
+        Some(made) => Ok(Some(Shared::new(alloc, made)?)),
+        None => Ok(None),
+    }
+}
+
+/// The numbers of new tiles, in order.
+fn numbers(alloc: Global, news: &[(TileNo, Shared<TileMesh>)]) -> Result<Vec<TileNo>, AllocError>
+    ensures { IfOk result (λ tiles. tiles.items ≡ map (λ (new : New). new.0) news.now) }
 {
     let mut tiles = Vec::with_capacity(alloc, news.len())?;
     for new in news {
         tiles.push(new.0)?;
     }
-    match kept_landmarks(alloc, old, mesh, tiles.as_slice())? {
-        Some(made) => Ok(Some(Shared::new(alloc, made)?)),
-        None => Ok(None),
-    }
+    Ok(tiles)
 }

@@ -17,3 +17,13 @@ mod PlanParts
 mod FilteredMaps
 mod HeldLaws
 mod NearestLaws
+mod BackLinks
+mod BackWalks
+mod BackSearches
+mod FloodBackLaws
+mod BatchLaws
+mod BatchAnswers
+mod LinksBetween
+mod SpotLaws
+mod ReachedWays
+mod PartialLaws

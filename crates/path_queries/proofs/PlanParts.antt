@@ -1,11 +1,14 @@
 -- What a plan answers, from what a search within its limits says of its one goal.
-use Rattle.std.proofs.Common.{ℕ, ◌<◌, List, [], ◌∷◌, length, arith}
+use Rattle.std.proofs.Common.{◌≡◌, refl, ℕ, ◌<◌, List, [], ◌∷◌, length, arith}
+use Rattle.std.specs.Prelude.{None, Some}
 use Rattle.std.proofs.lemmas.List.{length-map}
 use Rattle.mesh_types.specs.declared.answers.Corner.{Corner}
 use Rattle.mesh_types.specs.declared.answers.Corridor.{Corridor}
 use Rattle.mesh_types.specs.declared.links.Link.{Link}
 use Rattle.mesh_types.specs.declared.links.PolyRef.{PolyRef}
 use Rattle.mesh_types.specs.declared.mesh.Mesh.{Mesh}
+use Rattle.mesh_types.specs.declared.polygon.Polygon.{Polygon}
+use Rattle.mesh_types.specs.WholeMesh.{poly_at}
 use Rattle.mesh_types.specs.Located.{IsLocated}
 use Rattle.mesh_types.specs.Right.{portals_of}
 use Rattle.mesh_types.specs.Soundness.{IsSound}
@@ -18,7 +21,7 @@ use Rattle.path_queries.proofs.ReachLaws.{has-one, nearest-one}
 use Rattle.path_queries.proofs.WayParts.{ArePulled, pulled}
 
 module _ (mesh : Mesh) (query : PathQuery) (first last : PolyRef) (start : IsLocated mesh query.from query.from_y first)
-    (goal : IsLocated mesh query.goal query.goal_y last) where
+    (goal : IsLocated mesh query.goal query.goal_y last) (whole : query.partial ≡ None) where
   abbrev limits : Limits
   limits = record { key = query.most_cost; count = query.most_polygons }
 
@@ -34,13 +37,17 @@ module _ (mesh : Mesh) (query : PathQuery) (first last : PolyRef) (start : IsLoc
   portals-few at corridor is = omega (arith, is.few, length-map corridor.links (λ (link : Link). link.portal))
 
   -- a way
-  pub way-of : (at : PolyRef) (corridor : Corridor) (turns : List Corner) → IsNearest mesh query.filter first (last ∷ []) limits at corridor
+  pub way-of : (at : PolyRef) (corridor : Corridor) (turns : List Corner) (y : ℕ) → IsNearest mesh query.filter first (last ∷ []) limits at corridor
       → IsTaut query.from (portals_of corridor.links) query.goal turns
-      → IsWay mesh query (record { first = first; cost = corridor.cost; links = corridor.links; turns = turns })
-  way-of at corridor turns is taut = record {
+      → ((polygon : Polygon) → poly_at mesh last ≡ Some polygon → y ≡ polygon.low)
+      → IsWay mesh query (record { first = first; cost = corridor.cost; links = corridor.links; turns = turns }) (record { polygon = last; point = query.goal; y = y })
+  way-of at corridor turns y is taut floor = record {
     start = start;
-    last = last;
     goal = goal;
+    at_goal = refl;
+    last = goal.holding.polygon;
+    there = goal.holding.there;
+    floor = floor goal.holding.polygon goal.holding.there;
     cheapest = nearest-one mesh query.filter first last limits at corridor is;
     taut = taut;
     within_cost = is.within_cost;
@@ -50,6 +57,7 @@ module _ (mesh : Mesh) (query : PathQuery) (first last : PolyRef) (start : IsLoc
   -- an end at a limit
   pub limited-of : (seen : ℕ) → IsBeyondSeen mesh query.filter first (last ∷ []) limits seen → IsLimited mesh query seen
   limited-of seen is = record {
+    whole = whole;
     first = first;
     start = start;
     last = last;

@@ -1,4 +1,5 @@
 pub mod Filters
+pub mod PartialWays
 pub mod Plans
 pub mod FilteredGraphs
 pub mod Floods
@@ -6,3 +7,8 @@ pub mod Searches
 pub mod Reaches
 pub mod NearestGoals
 pub mod HeldGoals
+pub mod BackGraphs
+pub mod FloodsBack
+pub mod Batches
+pub mod Spots
+pub mod Reached

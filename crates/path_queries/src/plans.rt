@@ -1,25 +1,29 @@
 //! The question for a way through a filter, and its answers. Cheapest allowed walks.
 
-ghost use Rattle.std.specs.Prelude.{◌≡◌, ◌<◌, ◌∷◌, [], None, IfOk, length};
+ghost use Rattle.std.specs.Prelude.{◌≡◌, ◌<◌, ◌∷◌, [], None, Some, IfOk, length};
 ghost use Rattle.nav_ground.specs.Limits.{IsSetting};
 ghost use Rattle.corridor_search.specs.MeshGraphs.{IsThere};
 ghost use Rattle.funnel_path.specs.Coordinates.{HasChainCoordinates};
 ghost use Rattle.mesh_types.specs.declared.answers.Answer.{Answer};
+ghost use Rattle.mesh_types.specs.declared.polygon.Polygon.{Polygon};
 ghost use Rattle.mesh_types.specs.Chains.{IsChain};
+ghost use Rattle.mesh_types.specs.Located.{IsLocated};
 ghost use Rattle.mesh_types.specs.Right.{IsRightPath, portals_of};
 ghost use Rattle.mesh_types.specs.Soundness.{IsSound};
 ghost use Rattle.mesh_types.specs.Taut.{IsTaut};
+ghost use Rattle.mesh_types.specs.WholeMesh.{poly_at};
 ghost use Rattle.path_queries.specs.Filters.{AreAllOpen, IsFilter};
 ghost use Rattle.path_queries.specs.Plans.{AreAlikePlans, CanPlan, HasLowWayCost, HasNoLimits, IsPlan, IsPlanAsPath, IsRightPlan};
 ghost use Rattle.path_queries.specs.Reaches.{IsReach};
 
 use crate::filtered_graph::leads_on;
 use crate::filters::Filter;
+use crate::partial::partial_plan;
 use crate::reach::{Reach, cheapest_to};
 use funnel_path::pull;
 use graph_search::Limits;
 use mesh_locate::locate;
-use mesh_types::{Asked, Corner, Link, Mesh, PathFound, PolyRef, Portal};
+use mesh_types::{Asked, Corner, Link, Mesh, PathFound, PolyRef, Portal, poly};
 use nav_base::Point;
 use nav_lists::Items;
 use std::alloc::{AllocError, Global};
@@ -36,15 +40,38 @@ pub struct PathQuery {
     pub most_cost: u64,
     /// It ends after so many polygons; `usize::MAX` for no limit.
     pub most_polygons: usize,
+    /// Whether a way to the nearest place will do where none to the goal is found: then how many sixteenths of a cell each unit of height
+    /// counts between a polygon's floors and the goal's height, 0 to 1024.
+    pub partial: Option<u32>,
+}
+
+/// Where a way ends: in which polygon, at which point of it, in sixteenths of a cell, and the least floor of that polygon.
+#[derive(Clone, Copy, PartialEq, Eq)]
+pub struct WayEnd {
+    pub polygon: PolyRef,
+    pub point: Point,
+    pub y: u32,
 }
 
 /// What the question for a way is answered.
 #[derive(PartialEq, Eq, Drop)]
 pub enum PlanAnswer {
     /// A way to the goal: a cheapest allowed walk, as the filter prices it.
-    Whole(PathFound),
+    Whole {
+        way: PathFound,
+        end: WayEnd,
+    },
+    /// Where a partial way will do and none to the goal was found: a cheapest way to the nearest place. No place is nearer to which an allowed
+    /// walk leads that costs, with the straight way from there to the goal, less than `seen`; `u64::MAX` where all was seen.
+    Nearest {
+        way: PathFound,
+        end: WayEnd,
+        seen: u64,
+    },
     /// A limit ended the search: an allowed walk to the goal, if there is one, costs at least `seen`.
-    Limit { seen: u64 },
+    Limit {
+        seen: u64,
+    },
     /// No polygon holds the place in which the way is to begin.
     NoStart,
     /// No polygon holds the goal.
@@ -63,7 +90,7 @@ pub fn plan(alloc: Global, mesh: &Mesh, query: &PathQuery) -> Result<PlanAnswer,
 
     // Without limits right answers are of one kind, with the same first polygon and the same cost.
     ensures only { IfOk result (λ answer. HasNoLimits query.now → (other : PlanAnswer) → IsPlan query.now mesh.now other
-        → AreAlikePlans answer other) }
+        → AreAlikePlans query.now mesh.now answer other) }
 
     // With all areas open and no costs of its own a filter changes nothing, where no limit may end the search: they are those of a right
     // answer to the question for a path.
@@ -84,6 +111,27 @@ fn right_plan(alloc: Global, mesh: &Mesh, query: &PathQuery) -> Result<PlanAnswe
     let Some(first) = locate(mesh, query.from, query.from_y) else {
         return Ok(PlanAnswer::NoStart);
     };
+    match query.partial {
+        Some(rise) => partial_plan(alloc, mesh, query, rise, first),
+        None => whole_plan(alloc, mesh, query, first),
+    }
+}
+
+/// A right answer where no partial way is asked for and a polygon locates the start.
+fn whole_plan(
+    alloc: Global,
+    mesh: &Mesh,
+    query: &PathQuery,
+    first: PolyRef,
+) -> Result<PlanAnswer, AllocError>
+    requires sound { IsSound mesh.now }
+    requires setting { IsSetting mesh.now.setting }
+    requires query { CanPlan query.now }
+    requires whole { query.now.partial ≡ None }
+    requires start { IsLocated mesh.now query.now.from query.now.from_y first }
+    ensures right { IfOk result (λ answer. IsPlan query.now mesh.now answer) }
+    ensures low_cost { IfOk result HasLowWayCost }
+{
     let Some(last) = locate(mesh, query.goal, query.goal_y) else {
         return Ok(PlanAnswer::NoGoal);
     };
@@ -94,15 +142,31 @@ fn right_plan(alloc: Global, mesh: &Mesh, query: &PathQuery) -> Result<PlanAnswe
     match cheapest_allowed(alloc, mesh, &query.filter, first, last, limits)? {
         Reach::Found { corridor, .. } => {
             let turns = turns(alloc, query.from, corridor.links.as_slice(), query.goal)?;
-            Ok(PlanAnswer::Whole(PathFound {
+            let way = PathFound {
                 first,
                 cost: corridor.cost,
                 links: corridor.links,
                 turns,
-            }))
+            };
+            let end = WayEnd {
+                polygon: last,
+                point: query.goal,
+                y: least_floor(mesh, last),
+            };
+            Ok(PlanAnswer::Whole { way, end })
         }
         Reach::Limit { seen } => Ok(PlanAnswer::Limit { seen }),
         Reach::Apart => Ok(PlanAnswer::NoPath),
+    }
+}
+
+/// The least floor of a polygon.
+pub(crate) fn least_floor(mesh: &Mesh, at: PolyRef) -> u32
+    ensures { (polygon : Polygon) → poly_at mesh.now at ≡ Some polygon → result ≡ polygon.low }
+{
+    match poly(mesh, at) {
+        Some(polygon) => polygon.low,
+        None => 0,
     }
 }
 
@@ -118,8 +182,8 @@ impl Asked for PathQuery {
     }
 }
 
-/// A cheapest allowed walk from one polygon to another, within limits.
-fn cheapest_allowed(
+/// A cheapest allowed walk from one polygon to another, within limits. Only memory can be refused.
+pub fn cheapest_allowed(
     alloc: Global,
     mesh: &Mesh,
     filter: &Filter,

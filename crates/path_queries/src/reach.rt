@@ -21,7 +21,7 @@ use std::alloc::{AllocError, Global};
 
 /// What a search within limits says of some goals.
 #[derive(Drop)]
-pub(crate) enum Reach {
+pub enum Reach {
     /// The nearest of them, and a cheapest allowed walk to it.
     Found { at: PolyRef, corridor: Corridor },
     /// A limit ended the search: each allowed walk to a goal costs at least `seen`.
@@ -72,14 +72,18 @@ fn is_all(seen: u64) -> bool
 }
 
 /// Whether a polygon is one of the goals.
-fn is_goal(goals: &[PolyRef], at: PolyRef) -> bool
+pub(crate) fn is_goal(goals: &[PolyRef], at: PolyRef) -> bool
     ensures { MatchBool result (Contains goals.now at) (Contains goals.now at → ⊥) }
 {
     goals.contains(&at)
 }
 
 /// The links that steps take, in order.
-fn links_along(alloc: Global, mesh: &Mesh, steps: &[Step]) -> Result<Items<Link>, AllocError>
+pub(crate) fn links_along(
+    alloc: Global,
+    mesh: &Mesh,
+    steps: &[Step],
+) -> Result<Items<Link>, AllocError>
     requires { All (λ (step : Step). IsOver mesh.now step) steps.now }
     ensures { IfOk result (λ links. links ≡ map (link_of mesh.now) steps.now) }
 {

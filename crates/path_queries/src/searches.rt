@@ -1,6 +1,6 @@
 //! Searches through a filter.
 
-ghost use Rattle.std.specs.Prelude.{◌≡◌, ◌*◌, ◌⊎◌, [], map, All, Contains, IfOk};
+ghost use Rattle.std.specs.Prelude.{◌≡◌, ◌*◌, ◌⊎◌, [], ◌∷◌, map, All, Contains, IfOk};
 ghost use Rattle.nav_base.specs.Point.{IsInField};
 ghost use Rattle.nav_ground.specs.Limits.{IsSetting};
 ghost use Rattle.mesh_types.specs.declared.links.PolyRef.{PolyRef};
@@ -9,7 +9,7 @@ ghost use Rattle.corridor_search.specs.MeshGraphs.{IsThere, vertex_of};
 ghost use Rattle.corridor_search.specs.Estimates.{estimate_from};
 ghost use Rattle.path_queries.specs.Filters.{IsFilter};
 ghost use Rattle.path_queries.specs.FilteredGraphs.{IsLeastCost};
-ghost use Rattle.path_queries.specs.Searches.{IsSearchedThrough};
+ghost use Rattle.path_queries.specs.Searches.{IsHeadingFor, IsSearchedThrough};
 
 use crate::filtered_graph::FilteredGraph;
 use crate::filters::{Filter, least_cost, search_costs};
@@ -76,6 +76,7 @@ fn heading_for(mesh: &Mesh, areas: u64, costs: &[u32; AREAS], goals: &[PolyRef])
     ensures least { (result.least ≡ 0) ⊎ IsLeastCost areas costs.now result.least }
     ensures no_rest { (goal : PolyRef) → Contains goals.now goal → estimate_from mesh.now result.aim goal * result.least ≡ 0 }
     ensures no_goal { goals.now ≡ [] → result.least ≡ 0 }
+    ensures one_goal { (goal : PolyRef) → goals.now ≡ goal ∷ [] → IsHeadingFor mesh.now areas costs.now goal result.aim result.least }
 {
     if goals.len() != 1 {
         return Heading {

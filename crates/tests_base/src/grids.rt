@@ -2,7 +2,10 @@
 
 use crate::checks::same;
 use std::process::Abort;
-use world_grid::{GridStep, STEP_LIMIT, WorldPoint, dequantize, frame_of, quantize, step_of};
+use world_grid::{
+    Frame, FramePlace, GridStep, STEP_LIMIT, WorldPoint, dequantize, frame_of, place_of, point_of,
+    quantize, step_of,
+};
 
 /// In cells of 1: a float, and how many sixteenths it is.
 static WHOLE_CELLS: [(f32, Option<i64>); 10] = [
@@ -113,4 +116,30 @@ fn frames_hold_1024_columns(rt: HostRuntime) {
     );
     let wide = frame_of(0.3, 0.2, point(0.0, 0.0, 0.0), point(307.3, 0.0, 0.0));
     same(&rt, wide.is_some(), false);
+}
+
+#[test]
+fn places_back_to_points(rt: HostRuntime) {
+    let frame = Frame {
+        cell_size: 0.25,
+        cell_height: 0.5,
+        x: -2,
+        y: 3,
+        z: 0,
+    };
+    let place = FramePlace {
+        x: 40,
+        y: 7,
+        z: -16,
+    };
+    let at = point_of(frame, place).expect(&rt, "a point");
+    // -2 cells and 40 sixteenths are half a cell; 10 units of a half; a cell before 0.
+    same(&rt, (at.x, at.y, at.z), (0.125, 5.0, -0.25));
+    same(&rt, place_of(frame, at), Some(place));
+    let far = FramePlace {
+        x: 0x7f_ffff,
+        y: 0,
+        z: 0,
+    };
+    same(&rt, point_of(Frame { x: 1, ..frame }, far).is_some(), false);
 }

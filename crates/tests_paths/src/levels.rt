@@ -22,6 +22,8 @@ enum Step {
     /// One tile is claimed, built and taken in.
     CachedBuild,
     Publish,
+    /// What was built is published; it is done where the mesh has landmarks.
+    PublishKept,
     Settle,
     /// The history begins again.
     Renew,
@@ -80,6 +82,20 @@ fn published(level: &mut Level, alloc: Global) -> Told {
     match level.publish(alloc) {
         Ok(answer) => Told::Published(answer),
         Err(_) => Told::NoMemory,
+    }
+}
+
+fn published_with_landmarks(level: &mut Level, alloc: Global) -> Told {
+    match level.publication() {
+        Published::New { .. } => match level.next_mesh(alloc) {
+            Ok(mesh) => {
+                let kept = mesh.has_landmarks();
+                level.show(mesh);
+                if kept { Told::Done } else { Told::Nothing }
+            }
+            Err(_) => Told::NoMemory,
+        },
+        _ => Told::Nothing,
     }
 }
 
@@ -152,6 +168,7 @@ fn act<L: Ledger>(level: &mut Level, alloc: Global, steps: &mut Steps<L>, step: 
         Step::Aim => Told::Number(level.aim()),
         Step::CachedBuild => built(level, alloc, steps),
         Step::Publish => published(level, alloc),
+        Step::PublishKept => published_with_landmarks(level, alloc),
         Step::Settle => settled(level, alloc, steps),
         Step::Renew => renewed(level, alloc),
         Step::Lengths => Told::Numbers(level.length(), level.published()),
@@ -275,6 +292,31 @@ static LANDMARKS: [Row; 15] = [
     (Step::Paths(20), Told::Cost(56)),
 ];
 
+/// A door that shuts and opens: landmarks that were made once are there after each publish, and paths cost what they do in a fresh mesh.
+static KEPT: [Row; 15] = [
+    (Step::Paths(23), Told::Cost(56)),
+    (
+        Step::Ask(Asked::Block(2)),
+        Told::Reply(1, Reply::Added { number: 1 }),
+    ),
+    (Step::Aim, Told::Number(1)),
+    (Step::CachedBuild, Told::Number(0)),
+    (Step::PublishKept, Told::Nothing),
+    (Step::Paths(1), Told::Cost(63)),
+    (Step::Ask(Asked::Remove(1)), Told::Reply(2, Reply::Removed)),
+    (Step::Aim, Told::Number(2)),
+    (Step::CachedBuild, Told::Number(0)),
+    (Step::PublishKept, Told::Done),
+    (Step::Path, Told::Cost(56)),
+    (
+        Step::Ask(Asked::Block(2)),
+        Told::Reply(3, Reply::Added { number: 3 }),
+    ),
+    (Step::Settle, Told::Number(3)),
+    (Step::Path, Told::Cost(63)),
+    (Step::Lengths, Told::Numbers(3, 3)),
+];
+
 #[test]
 fn plays_levels(rt: HostRuntime) {
     let wrong = wrong_in_play::<Brand>(rt.alloc(), &STEPS, Blank::new(1));
@@ -283,4 +325,6 @@ fn plays_levels(rt: HostRuntime) {
     all_hold(&rt, "a history that begins again", wrong);
     let wrong = wrong_in_play::<Brand>(rt.alloc(), &LANDMARKS, Blank::new(1));
     all_hold(&rt, "paths by landmarks", wrong);
+    let wrong = wrong_in_play::<Brand>(rt.alloc(), &KEPT, Blank::new(1));
+    all_hold(&rt, "landmarks that are kept", wrong);
 }

@@ -14,7 +14,7 @@ use std::marker::Brand;
 use std::sync::ledger::{Blank, Ledger};
 
 /// A polygon, what a way to it costs, and the place in the list of the one before it.
-type Entry = (u32, u64, usize);
+pub(crate) type Entry = (u32, u64, usize);
 
 /// From where, which areas are open, up to which cost, and the polygons that are wanted; none where no polygon holds the place.
 type Row = ((i32, i32), u64, u64, &'static [Entry]);
@@ -30,7 +30,7 @@ static ROWS: [Row; 5] = [
     ((0, 0), u64::MAX, 96, &[]),
 ];
 
-fn can_flood(query: &FloodQuery) -> bool
+pub(crate) fn can_flood(query: &FloodQuery) -> bool
     requires { query.now.filter.costs ≡ None }
     ensures { IsTrue result → CanFlood query.now }
 {
@@ -53,7 +53,7 @@ fn are_entries(list: &[Flooded], wanted: &[Entry]) -> bool {
     true
 }
 
-fn is_wanted(answer: &FloodAnswer, wanted: &[Entry]) -> bool {
+pub(crate) fn is_wanted(answer: &FloodAnswer, wanted: &[Entry]) -> bool {
     match answer {
         FloodAnswer::Flooded(list) => !wanted.is_empty() && are_entries(list.as_slice(), wanted),
         FloodAnswer::NoStart => wanted.is_empty(),

@@ -5,11 +5,11 @@ ghost use Rattle.nav_ground.specs.Limits.{IsSetting};
 ghost use Rattle.mesh_types.specs.Soundness.{IsSound};
 ghost use Rattle.kept_paths.specs.KeptPaths.{CanCheck};
 ghost use Rattle.path_follow.specs.Following.{CanFollow, IsTurnOf};
-ghost use Rattle.path_queries.specs.Plans.{CanPlan};
 
 use crate::meshes::{
     FlatLevel, all_hold, at, gap, has_coordinates, mesh, open, point, split, wall,
 };
+use crate::plans::can_plan;
 use kept_paths::{CheckAnswer, KeptPath, check};
 use mesh_types::{Corner, Mesh, PathFound};
 use nav_base::Steps;
@@ -176,7 +176,7 @@ static WALL: [Row; 5] = [
     ),
 ];
 
-fn filter() -> Filter
+pub(crate) fn filter() -> Filter
     ensures { result.costs ≡ None }
 {
     Filter {
@@ -185,15 +185,8 @@ fn filter() -> Filter
     }
 }
 
-fn can_plan(query: &PathQuery) -> bool
-    requires { query.now.filter.costs ≡ None }
-    ensures { IsTrue result → CanPlan query.now }
-{
-    has_coordinates(query.from) && has_coordinates(query.goal)
-}
-
 /// The way from one place to another, if there is one.
-fn way(
+pub(crate) fn way(
     alloc: Global,
     mesh: &Mesh,
     from: (i32, i32),
@@ -210,12 +203,13 @@ fn way(
         filter: filter(),
         most_cost: u64::MAX,
         most_polygons: usize::MAX,
+        partial: None,
     };
     if !can_plan(&query) {
         return Ok(None);
     }
     match plan(alloc, mesh, &query)? {
-        PlanAnswer::Whole(way) => Ok(Some(way)),
+        PlanAnswer::Whole { way, .. } => Ok(Some(way)),
         _ => Ok(None),
     }
 }

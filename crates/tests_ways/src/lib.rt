@@ -1,9 +1,11 @@
-//! Tests of further questions about ways, in meshes of a few strips: ways through a filter, floods, the nearest of many goals, kept paths that
-//! are checked and followed.
+//! Tests of further questions about ways, in meshes of a few strips: ways through a filter, partial ones, floods from a place and back to it, the
+//! nearest of many goals, ways from many places to one, kept paths that are checked, made whole and followed.
 //!
 //! The tests use public calls alone, and compare them with tables that were worked out by hand.
 #![tactic(auto)]
 
+#[cfg(test)]
+mod back;
 #[cfg(test)]
 mod floods;
 #[cfg(test)]
@@ -13,4 +15,8 @@ mod meshes;
 #[cfg(test)]
 mod nearest;
 #[cfg(test)]
+mod partial;
+#[cfg(test)]
 mod plans;
+#[cfg(test)]
+mod repairs;

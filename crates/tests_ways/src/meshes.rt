@@ -5,6 +5,7 @@ ghost use Rattle.std.specs.Prelude.{◌≡◌, ◌↔◌, ◌<◌, IfOk, IsTrue}
 ghost use Rattle.nav_base.specs.Point.{HasCoordinates};
 ghost use Rattle.nav_ground.specs.Grounds.{IsGround, IsSized};
 ghost use Rattle.nav_ground.specs.Limits.{IsSetting};
+ghost use Rattle.mesh_types.specs.Passages.{IsTwoWay};
 ghost use Rattle.mesh_types.specs.Soundness.{IsSound};
 
 use layer_cut::ground;
@@ -62,6 +63,43 @@ static WALL: [u8; 64] = [
     1, 1, 1, 0, 1, 1, 1, 1, 1, 1, 1, 0, 1, 1, 1, 1, 1, 1, 1, 1, 1, 1, 1, 1, 1, 1, 1, 1, 1, 1, 1, 1,
 ];
 
+/// A hole of two by two columns in the middle: two strips in each of its rows.
+static HOLE: [u8; 64] = [
+    1, 1, 1, 1, 1, 1, 1, 1, 1, 1, 1, 1, 1, 1, 1, 1, 1, 1, 1, 1, 1, 1, 1, 1, 1, 1, 1, 0, 0, 1, 1, 1,
+    1, 1, 1, 0, 0, 1, 1, 1, 1, 1, 1, 1, 1, 1, 1, 1, 1, 1, 1, 1, 1, 1, 1, 1, 1, 1, 1, 1, 1, 1, 1, 1,
+];
+
+const PAIR: &[u8] = b"nav 1\nsize 12 6\ntile 6\nagent 10 4 0\nerror 0\nmesh strips\nlimit 4\n";
+
+const LONG: &[u8] = b"nav 1\nsize 24 6\ntile 6\nagent 10 4 0\nerror 0\nmesh strips\nlimit 4\n";
+
+static ALL_PAIR: [u8; 72] = [1; 72];
+
+static ALL_LONG: [u8; 144] = [1; 144];
+
+/// In the second of two tiles the second row ends sooner.
+static PAIR_MOVED: [u8; 72] = [
+    1, 1, 1, 1, 1, 1, 1, 1, 1, 1, 1, 1, 1, 1, 1, 1, 1, 1, 1, 1, 1, 1, 1, 1, 1, 1, 1, 1, 1, 1, 1, 1,
+    1, 1, 0, 1, 1, 1, 1, 1, 1, 1, 1, 1, 1, 1, 1, 1, 1, 1, 1, 1, 1, 1, 1, 1, 1, 1, 1, 1, 1, 1, 1, 1,
+    1, 1, 1, 1, 1, 1, 1, 1,
+];
+
+/// In the first the third row is two strips.
+static PAIR_SHUT: [u8; 72] = [
+    1, 1, 1, 1, 1, 1, 1, 1, 1, 1, 1, 1, 1, 1, 1, 1, 1, 1, 1, 1, 1, 1, 1, 1, 1, 1, 1, 1, 1, 1, 1, 1,
+    1, 1, 1, 1, 1, 1, 0, 1, 1, 1, 1, 1, 1, 1, 1, 1, 1, 1, 1, 1, 1, 1, 1, 1, 1, 1, 1, 1, 1, 1, 1, 1,
+    1, 1, 1, 1, 1, 1, 1, 1,
+];
+
+/// Of four tiles the second and the third have no border together in the first row.
+static LONG_SHUT: [u8; 144] = [
+    1, 1, 1, 1, 1, 1, 1, 1, 1, 0, 1, 1, 1, 1, 1, 1, 1, 1, 1, 1, 1, 1, 1, 1, 1, 1, 1, 1, 1, 1, 1, 1,
+    1, 0, 1, 1, 1, 1, 1, 1, 1, 1, 1, 1, 1, 1, 1, 1, 1, 1, 1, 1, 1, 1, 1, 1, 1, 1, 1, 1, 1, 1, 1, 1,
+    1, 1, 1, 1, 1, 1, 1, 1, 1, 1, 1, 1, 1, 1, 1, 1, 1, 1, 1, 1, 1, 1, 1, 1, 1, 1, 1, 1, 1, 1, 1, 1,
+    1, 1, 1, 1, 1, 1, 1, 1, 1, 1, 1, 1, 1, 1, 1, 1, 1, 1, 1, 1, 1, 1, 1, 1, 1, 1, 1, 1, 1, 1, 1, 1,
+    1, 1, 1, 1, 1, 1, 1, 1, 1, 1, 1, 1, 1, 1, 1, 1,
+];
+
 /// Four rows, from 16 to 80 sixteenths along both axes.
 pub(crate) fn open() -> FlatLevel {
     FlatLevel {
@@ -110,6 +148,56 @@ pub(crate) fn wall() -> FlatLevel {
         header: EIGHT,
         side: 8,
         areas: &WALL,
+    }
+}
+
+pub(crate) fn hole() -> FlatLevel {
+    FlatLevel {
+        header: EIGHT,
+        side: 8,
+        areas: &HOLE,
+    }
+}
+
+/// Two tiles of such rows.
+pub(crate) fn pair() -> FlatLevel {
+    FlatLevel {
+        header: PAIR,
+        side: 12,
+        areas: &ALL_PAIR,
+    }
+}
+
+pub(crate) fn pair_moved() -> FlatLevel {
+    FlatLevel {
+        header: PAIR,
+        side: 12,
+        areas: &PAIR_MOVED,
+    }
+}
+
+pub(crate) fn pair_shut() -> FlatLevel {
+    FlatLevel {
+        header: PAIR,
+        side: 12,
+        areas: &PAIR_SHUT,
+    }
+}
+
+/// Four tiles of such rows.
+pub(crate) fn long() -> FlatLevel {
+    FlatLevel {
+        header: LONG,
+        side: 24,
+        areas: &ALL_LONG,
+    }
+}
+
+pub(crate) fn long_shut() -> FlatLevel {
+    FlatLevel {
+        header: LONG,
+        side: 24,
+        areas: &LONG_SHUT,
     }
 }
 
@@ -163,6 +251,7 @@ pub(crate) fn mesh<L: Ledger>(
 ) -> Result<Mesh, AllocError>
     ensures sound { IfOk result IsSound }
     ensures setting { IfOk result (λ mesh. IsSetting mesh.setting) }
+    ensures two_way { IfOk result IsTwoWay }
 {
     let ground = read(alloc, level)?;
     built(alloc, &ground, steps)
@@ -177,6 +266,7 @@ fn built<L: Ledger>(
     requires ground { IsGround ground.now }
     ensures sound { IfOk result IsSound }
     ensures setting { IfOk result (λ mesh. IsSetting mesh.setting) }
+    ensures two_way { IfOk result IsTwoWay }
 {
     let tiles = build_tiles(alloc, ground, &[], steps)?;
     joined(alloc, &ground.setting, tiles)

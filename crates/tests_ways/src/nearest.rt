@@ -70,7 +70,7 @@ static ROWS: [Row; 9] = [
     ),
 ];
 
-fn goals(alloc: Global, places: &[(i32, i32)]) -> Result<Items<Goal>, AllocError> {
+pub(crate) fn goals(alloc: Global, places: &[(i32, i32)]) -> Result<Items<Goal>, AllocError> {
     let mut goals = Vec::new(alloc);
     for place in places {
         let goal = Goal {
@@ -82,7 +82,7 @@ fn goals(alloc: Global, places: &[(i32, i32)]) -> Result<Items<Goal>, AllocError
     Ok(Items::from_vec(goals))
 }
 
-fn have_coordinates(goals: &[Goal]) -> bool
+pub(crate) fn have_coordinates(goals: &[Goal]) -> bool
     ensures { IsTrue result → All HasGoalCoordinates goals.now }
 {
     for goal in goals {

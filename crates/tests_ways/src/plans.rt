@@ -1,9 +1,10 @@
 //! Ways through a filter. The middles of neighbouring rows are 16 apart.
 
-ghost use Rattle.std.specs.Prelude.{◌≡◌, ◌<◌, IsTrue};
+ghost use Rattle.std.specs.Prelude.{◌≡◌, ◌<◌, IsTrue, IfSome};
 ghost use Rattle.nav_ground.specs.Limits.{IsSetting};
 ghost use Rattle.mesh_types.specs.Soundness.{IsSound};
 ghost use Rattle.path_queries.specs.Filters.{IsFilter};
+ghost use Rattle.path_queries.specs.PartialWays.{IsPartialAsked};
 ghost use Rattle.path_queries.specs.Plans.{CanPlan};
 
 use crate::meshes::{FlatLevel, all_hold, dear_water, has_coordinates, mesh, open, point, water};
@@ -34,7 +35,7 @@ const NONE: u64 = u64::MAX;
 const ALL: usize = usize::MAX;
 
 /// All areas but 2, which is the water.
-const DRY: u64 = 0xfffffffffffffffb;
+pub(crate) const DRY: u64 = 0xfffffffffffffffb;
 
 static OPEN: [Row; 8] = [
     (
@@ -98,16 +99,28 @@ static DEAR: [Row; 1] = [(
     Wanted::Whole(112, 3, 0),
 )];
 
-fn can_plan(query: &PathQuery) -> bool
+pub(crate) fn can_plan(query: &PathQuery) -> bool
     requires { IsFilter query.now.filter }
     ensures { IsTrue result → CanPlan query.now }
 {
-    has_coordinates(query.from) && has_coordinates(query.goal)
+    has_coordinates(query.from) && has_coordinates(query.goal) && can_be_partial(query)
+}
+
+fn can_be_partial(query: &PathQuery) -> bool
+    ensures { IsTrue result → IfSome query.now.partial (IsPartialAsked query.now) }
+{
+    match query.partial {
+        Some(rise) => rise <= 1024 && query.goal_y <= 65535,
+        None => true,
+    }
 }
 
 fn told(answer: &PlanAnswer) -> Wanted {
     match answer {
-        PlanAnswer::Whole(way) => Wanted::Whole(way.cost, way.links.len(), way.turns.len()),
+        PlanAnswer::Whole { way, .. } => {
+            Wanted::Whole(way.cost, way.links.len(), way.turns.len())
+        }
+        PlanAnswer::Nearest { .. } => Wanted::NoMemory,
         PlanAnswer::Limit { seen } => Wanted::Limit(*seen),
         PlanAnswer::NoStart => Wanted::NoStart,
         PlanAnswer::NoGoal => Wanted::NoGoal,
@@ -133,6 +146,7 @@ fn asked(alloc: Global, mesh: &Mesh, priced: &Mesh, row: Row) -> Wanted
         },
         most_cost,
         most_polygons,
+        partial: None,
     };
     if !can_plan(&query) {
         return Wanted::NoMemory;

@@ -3,5 +3,4 @@ pub mod AliveBetween
 pub mod ToldShapes
 pub mod ToldTiles
 pub mod SameShapes
-pub mod SameLinks
 pub mod SameTiles

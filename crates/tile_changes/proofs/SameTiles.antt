@@ -24,7 +24,7 @@ use Rattle.tile_build.proofs.BuildTotals.{alive_limits}
 use Rattle.tile_build.proofs.BuiltTiles.{are_tiles, get_or-tiles_under, length-tiles_under}
 use Rattle.tile_build.proofs.LocalTiles.{tile_mesh_local}
 use Rattle.tile_changes.specs.Changes.{HasSameLinks, HasSameTiles, IsChanged}
-use Rattle.tile_changes.proofs.SameLinks.{kept_link}
+use Rattle.nav_book.proofs.Differing.{kept_link}
 use Rattle.tile_changes.proofs.SameShapes.{same_touching}
 
 -- the mesh of a tile is that under the shapes that touch it

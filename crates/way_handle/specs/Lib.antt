@@ -5,3 +5,4 @@ pub mod Flooding
 pub mod Checking
 pub mod Nearing
 pub mod Followers
+pub mod Repairing

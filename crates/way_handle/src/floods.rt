@@ -1,34 +1,36 @@
-//! Floods: the polygons within a cost of a place.
+//! Floods: the polygons within a cost of a place, or from which it is reached within a cost.
 
-ghost use Rattle.std.specs.Prelude.{◌≡◌, IfNone, IfSome, Option, map};
+ghost use Rattle.std.specs.Prelude.{◌≡◌, ◌≤◌, ℕ, IfNone, IfSome, Option, map};
 ghost use Rattle.mesh_types.specs.declared.mesh.Mesh.{Mesh};
-ghost use Rattle.path_queries.specs.Floods.{CanFlood, IsRightFlood};
-ghost use Rattle.nav_handle.specs.Answers.{EndsSo, IsAskedBy, IsRepliedBy};
+ghost use Rattle.path_queries.specs.Floods.{CanFlood};
+ghost use Rattle.nav_handle.specs.Answers.{EndsSo, IsAskedBy, IsRepliedBy, seen_in};
 ghost use Rattle.nav_handle.specs.Statuses as status;
 ghost use Rattle.nav_handle.specs.Wire.{laid};
-ghost use Rattle.way_handle.specs.Flooding.{FloodRoom, flood_asked, flood_ends, told_flood};
+ghost use Rattle.way_handle.specs.Flooding.{CanAskFlood, FloodRoom, IsRightRound, flood_asked, flood_ends, told_flood};
 
 use crate::filters::filter_of;
 use nav_handle::{
-    HasMesh, NO_START, NavdPoint, NavdPolygon, OK, OUT_OF_RANGE, has_coordinates, point_of,
-    polygon_told,
+    HasMesh, NO_START, NavdPoint, NavdPolygon, NavdView, OK, OUT_OF_RANGE, has_coordinates,
+    point_of, polygon_told,
 };
 use path_queries::{FloodAnswer, FloodQuery, Flooded};
 use std::alloc::Global;
 
-/// The place from which a flood begins, which areas it may enter, bit a for area a, and up to which cost, which the host writes; and how many polygons
-/// it has, which the call tells.
+/// The place from which a flood begins, or with `back` 1, not 0, to which it leads; which areas may be entered, bit a for area a, and up to which
+/// cost, which the host writes; and how many polygons it has, which the call tells.
 #[repr(C)]
 #[derive(Clone, Copy)]
 pub struct NavdFlood {
     pub at: NavdPoint,
     pub y: u32,
+    pub back: u32,
     pub areas: u64,
     pub most_cost: u64,
     pub polygons: usize,
 }
 
-/// A polygon of a flood, what a cheapest walk to it costs, and the place in the array of the polygon before it on such a walk, from 0.
+/// A polygon of a flood, what a cheapest walk to it costs, and the place in the array of the polygon before it on such a walk, from 0. Of a flood
+/// back: what one from there costs, and the place of the polygon behind it.
 #[repr(C)]
 #[derive(Clone, Copy)]
 pub struct NavdReached {
@@ -41,9 +43,10 @@ pub struct NavdReached {
 fn query_of(flood: &NavdFlood, costs: &[u32]) -> Option<FloodQuery>
     ensures query { IfSome result (λ query. query ≡ flood_asked flood.now costs.now) }
     ensures rules { IfSome result CanFlood }
-    ensures none { IfNone result (CanFlood (flood_asked flood.now costs.now) → ⊥) }
+    ensures none { IfNone result (CanAskFlood flood.now costs.now → ⊥) }
+    ensures round { IfSome result (λ query. flood.now.back ≤ 1) }
 {
-    if !has_coordinates(flood.at) {
+    if flood.back > 1 || !has_coordinates(flood.at) {
         return None;
     }
     let filter = filter_of(flood.areas, costs)?;
@@ -104,8 +107,8 @@ fn end_flood(
     flood: &mut NavdFlood,
     reached: &mut [NavdReached],
 ) -> u32
-    ensures { (held : Option Mesh) (query : FloodQuery) → IsRepliedBy (IsRightFlood query) held answer
-        → IsAskedBy (IsRightFlood query) flood_ends told_flood held (flood.old, reached.old) (flood.new, reached.new) result }
+    ensures { (held : Option Mesh) (back : ℕ) (query : FloodQuery) → IsRepliedBy (IsRightRound back query) held answer
+        → IsAskedBy (IsRightRound back query) flood_ends told_flood held (flood.old, reached.old) (flood.new, reached.new) result }
 {
     match answer {
         Ok(answer) => {
@@ -116,23 +119,41 @@ fn end_flood(
     }
 }
 
-/// The polygons within a cost of a place in the mesh of a handle, through a filter.
-pub fn flood<H: HasMesh>(
+/// The answer to the question for a flood, or with `back` 1 for a flood back, in what a view shows; else the status that says why there is none.
+fn ask_flood(
     alloc: Global,
-    held: &mut H,
+    view: &mut NavdView,
+    back: u32,
+    query: &FloodQuery,
+) -> Result<FloodAnswer, u32>
+    requires { CanFlood query.now }
+    ensures same { view.new.view ≡ view.old.view }
+    ensures replied { IsRepliedBy (IsRightRound back query.now) (seen_in view.old.view) result }
+{
+    if back == 1 {
+        view.flood_back(alloc, query)
+    } else {
+        view.ask_by(alloc, query)
+    }
+}
+
+/// The polygons within a cost of a place in what a view shows, through a filter; or those from which it is reached within that.
+pub fn flood(
+    alloc: Global,
+    view: &mut NavdView,
     flood: &mut NavdFlood,
     costs: &[u32],
     reached: &mut [NavdReached],
 ) -> u32
-    ensures asked { CanFlood (flood_asked flood.old costs.now) → IsAskedBy (IsRightFlood (flood_asked flood.old costs.now)) flood_ends told_flood
-        (H.mesh_in held.old) (flood.old, reached.old) (flood.new, reached.new) result }
-    ensures refused { (CanFlood (flood_asked flood.old costs.now) → ⊥)
+    ensures asked { CanAskFlood flood.old costs.now → IsAskedBy (IsRightRound flood.old.back (flood_asked flood.old costs.now)) flood_ends told_flood
+        (seen_in view.old.view) (flood.old, reached.old) (flood.new, reached.new) result }
+    ensures refused { (CanAskFlood flood.old costs.now → ⊥)
         → EndsSo {Room = FloodRoom} status.out_of_range (flood.old, reached.old) (flood.new, reached.new) result }
-    ensures same { H.is_same held.old held.new }
+    ensures same { view.new.view ≡ view.old.view }
 {
     let Some(query) = query_of(flood, costs) else {
         return OUT_OF_RANGE;
     };
-    let answer = held.ask_by(alloc, &query);
+    let answer = ask_flood(alloc, view, flood.back, &query);
     end_flood(answer, flood, reached)
 }

@@ -13,9 +13,11 @@ mod followers;
 mod nearest;
 mod plans;
 mod reading;
+mod repairs;
 
 pub use checks::{NavdKept, check};
 pub use floods::{NavdFlood, NavdReached, flood};
 pub use followers::{NavdFollower, follow};
 pub use nearest::{NavdGoal, NavdNearest, nearest_goal};
 pub use plans::{NavdPlan, plan};
+pub use repairs::{NavdRepair, repair};

@@ -5,7 +5,7 @@ use Rattle.std.specs.Float.{Float}
 use Rattle.std.proofs.lemmas.Int.{ints, to_z-of_z, fits_signed_from_abs}
 use lib.Signed.{mag, nat_abs-le}
 use native.Mathlib.Nat.{eq_of_mul-eq-mul_right}
-use Rattle.world_grid.specs.Grid.{IsNearest, IsSteps, IsStepOf, length_of}
+use Rattle.world_grid.specs.Grid.{IsNearest, IsSteps, IsStepOf, length_of, told_of}
 use Rattle.world_grid.specs.Frames.{IsStretch, IsStretchBetween, IsFloorOf, AreSteps, IsWithinHeight}
 use Rattle.world_grid.specs.Places.{IsOffset}
 use Rattle.world_grid.specs.declared.grid_step.GridStep.{GridStep}
@@ -86,3 +86,34 @@ pub offset_reads : (x : Float) (step : GridStep) (a b n : ℤ) → a ≡ b → I
 offset_reads x step a b n e h =
     subst₂ (λ (from m : ℤ). IsOffset x step from m) e
     (sym (to_z-of_z w32 n (fits_signed_from_abs w32 n (omega (arith, apart a n h.begins h.near))))) h
+
+-- a number of steps behind others, as the code counts it
+abbrev counted_in : ℤ → ℤ → ℤ
+counted_in from m = to_z w64 (of_z w64 (to_z w64 (of_z w64 from) +ℤ to_z w64 (of_z w64 m)))
+
+count_reads : (from n m : ℤ) → to_z w64 (of_z w64 from) ≡ from → m ≡ to_z w32 (of_z w32 n) → mag n < 2147483648 → unsigned_abs from < 2 ^ 23 → counted_in from m ≡ from +ℤ n
+count_reads from n m whole reads fits near =
+    let same = units_read m n fits reads in
+    let some = nat_abs-le n fits in
+    ap (λ (k : ℤ). to_z w64 (of_z w64 (k +ℤ to_z w64 (of_z w64 m)))) whole
+    ∙ ap (λ (k : ℤ). to_z w64 (of_z w64 (from +ℤ k))) same
+    ∙ to_z-of_z w64 (from +ℤ n) (fits_signed_from_abs w64 (from +ℤ n) (omega (arith, ints, near, some)))
+
+pub counted : (from n m : ℤ) (a b : ℕ) → to_z w64 (of_z w64 from) ≡ from → m ≡ to_z w32 (of_z w32 n) → mag n < 2147483648
+    → a ≡ unsigned_abs (to_z w64 (of_z w64 from)) → b ≡ unsigned_abs (counted_in from m) → a < 2 ^ 23 → b < 2 ^ 23
+    → (unsigned_abs from < 2 ^ 23) × (unsigned_abs (from +ℤ n) < 2 ^ 23) × (to_z w32 (of_z w32 (counted_in from m)) ≡ from +ℤ n)
+counted from n m a b whole reads fits is count small few =
+    let near = subst (λ (k : ℕ). k < 2 ^ 23) (is ∙ ap unsigned_abs whole) small in
+    let sum = count_reads from n m whole reads fits near in
+    let fewer = subst (λ (k : ℕ). k < 2 ^ 23) (count ∙ ap unsigned_abs sum) few in
+    (near, fewer, ap (λ (k : ℤ). to_z w32 (of_z w32 k)) sum ∙ narrow_reads (from +ℤ n) fewer)
+
+pub offset_by : (x : Float) (step : GridStep) (a b n m : ℤ) → a ≡ b → n ≡ m → IsOffset x step a n → IsOffset x step b m
+offset_by x step a b n m e f h = subst₂ (IsOffset x step) e f h
+
+-- a number of 32 bits, as the code reads it
+pub place_reads : (n : ℤ) → mag n < 2147483648 → to_z w32 (of_z w32 n) ≡ n
+place_reads n fits = to_z-of_z w32 n (record { sfits = fits })
+
+pub told_by : {a b n m : ℤ} → a ≡ b → n ≡ m → (step : GridStep) → told_of (a +ℤ n) step ≡ told_of (b +ℤ m) step
+told_by {a} {b} {n} {m} e f step = ap (λ (k : ℤ). told_of (k +ℤ n) step) e ∙ ap (λ (k : ℤ). told_of (b +ℤ k) step) f

@@ -1,56 +1,5 @@
-use Rattle.std.proofs.Common.{◌<◌, List, length, refl, sym, subst}
-use Rattle.mesh_types.specs.declared.links.Link.{Link}
-use Rattle.mesh_types.specs.Chains.{IsChain}
-use Rattle.mesh_types.specs.Right.{portals_of}
-use Rattle.mesh_types.specs.Taut.{IsTaut}
-use Rattle.funnel_path.specs.Coordinates.{HasChainCoordinates}
-use Rattle.path_queries.proofs.PlanParts.{limited-of, portals-few, way-of, way-pulled}
+use Rattle.std.proofs.Common.{refl}
 use Rattle.path_queries.proofs.plans.right_plan.Goals as goal
 
 pub returns-in_default-clause-right : goal.returns-in_default-clause-right
 returns-in_default-clause-right c = c.in_default.ensures.none.0 refl
-
-pub returns-in_default-locate-clause-right : goal.returns-in_default-locate-clause-right
-returns-in_default-locate-clause-right c = record {
-  first = c.in-Some.first;
-  start = c.in-Some.ensures.located;
-  no_goal = c.in_default-locate.ensures.none.0 refl;
-}
-
-pub turns-requires-clause-chain : goal.turns-requires-clause-chain
-turns-requires-clause-chain c =
-    let q = c.args.query.now in
-    let found = rw c.in-Found.is at c.in_ok-corridor.ensures in
-    subst (λ (links : List Link). IsChain q.from (portals_of links) q.goal) (sym c.as_slice.ensures)
-    (way-pulled c.args.mesh.now q c.in-Some.first c.in-Some-locate.last c.in-Some.ensures.located c.in-Some-locate.ensures.located _
-    c.in-Found.corridor c.requires.sound c.requires.query found).chain
-
-pub turns-requires-clause-few : goal.turns-requires-clause-few
-turns-requires-clause-few c =
-    let found = rw c.in-Found.is at c.in_ok-corridor.ensures in
-    subst (λ (links : List Link). length (portals_of links) < 4294967295) (sym c.as_slice.ensures)
-    (portals-few c.args.mesh.now c.args.query.now c.in-Some.first c.in-Some-locate.last c.in-Some.ensures.located c.in-Some-locate.ensures.located _
-    c.in-Found.corridor found)
-
-pub turns-requires-clause-coordinates : goal.turns-requires-clause-coordinates
-turns-requires-clause-coordinates c =
-    let q = c.args.query.now in
-    let found = rw c.in-Found.is at c.in_ok-corridor.ensures in
-    subst (λ (links : List Link). HasChainCoordinates q.from (portals_of links) q.goal) (sym c.as_slice.ensures)
-    (way-pulled c.args.mesh.now q c.in-Some.first c.in-Some-locate.last c.in-Some.ensures.located c.in-Some-locate.ensures.located _
-    c.in-Found.corridor c.requires.sound c.requires.query found).coordinates
-
-pub returns-in_ok-turns-in-Found-clause-right : goal.returns-in_ok-turns-in-Found-clause-right
-returns-in_ok-turns-in-Found-clause-right c =
-    let q = c.args.query.now in
-    let found = rw c.in-Found.is at c.in_ok-corridor.ensures in
-    way-of c.args.mesh.now q c.in-Some.first c.in-Some-locate.last c.in-Some.ensures.located c.in-Some-locate.ensures.located _
-    c.in-Found.corridor c.in_ok-turns-in-Found.turns found
-    (subst (λ (links : List Link). IsTaut q.from (portals_of links) q.goal c.in_ok-turns-in-Found.turns) c.as_slice.ensures
-    c.in_ok-turns-in-Found.ensures)
-
-pub returns-in-Limit-clause-right : goal.returns-in-Limit-clause-right
-returns-in-Limit-clause-right c =
-    let found = rw c.in-Limit.is at c.in_ok-corridor.ensures in
-    limited-of c.args.mesh.now c.args.query.now c.in-Some.first c.in-Some-locate.last c.in-Some.ensures.located c.in-Some-locate.ensures.located
-    c.in-Limit.seen found

@@ -1,4 +1,4 @@
-use Rattle.std.proofs.Common.{◌≡◌, ◌*◌, ◌∙◌, ℕ, List, length, ap, sym, subst, arith}
+use Rattle.std.proofs.Common.{◌≡◌, ◌*◌, ◌∙◌, ℕ, List, length, ap, refl, sym, subst, arith}
 use Rattle.std.specs.Prelude.{Contains, map}
 use Rattle.std.proofs.lemmas.Result.{IfOk-weaker}
 use Rattle.graph_search.specs.declared.graph.Vertex.{Vertex}
@@ -7,6 +7,7 @@ use Rattle.corridor_search.specs.MeshGraphs.{polygon_of, vertex_of, vertices_of}
 use Rattle.corridor_search.specs.Estimates.{estimate_from}
 use Rattle.corridor_search.proofs.Vertices.{there-contains}
 use Rattle.path_queries.specs.FilteredGraphs.{AreSearchCosts, filtered_arcs, filtered_estimates}
+use Rattle.path_queries.specs.Searches.{IsHeadingFor}
 use Rattle.path_queries.proofs.Searched.{explored-if, filtered-searchable, heading-rules}
 use Rattle.path_queries.proofs.searches.search_through.Goals as goal
 
@@ -46,6 +47,12 @@ returns c =
       estimate = estimate;
       no_rest = c.heading_for-heading.ensures.no_rest;
       no_goal = λ none v. ap (λ (n : ℕ). estimate_from mesh aim (polygon_of v) * n) (c.heading_for-heading.ensures.no_goal none) ∙ times-none (estimate_from mesh aim (polygon_of v));
+      aim = aim;
+      least = least;
+      estimate_is = λ v. refl;
+      no_heading = c.heading_for-heading.ensures.no_goal;
+      heading = λ goal is. subst (λ (costs : List ℕ). IsHeadingFor mesh filter.areas costs goal aim least) c.unwrap_or-costs.ensures
+          (c.heading_for-heading.ensures.one_goal goal is);
       explored = subst (λ (vs : List Vertex). IsExplored (filtered_arcs mesh filter.areas search c.args.from) estimate (vertex_of c.args.from) vs c.args.limits (length (vertices_of mesh)) (length (vertices_of mesh) * 2897000) found.reached.items found.seen) stops
           (subst (λ (v : Vertex). IsExplored (filtered_arcs mesh filter.areas search c.args.from) estimate v c.as_slice.result.now c.args.limits (length (vertices_of mesh)) (length (vertices_of mesh) * 2897000) found.reached.items found.seen) c.vertex_at.ensures explored);
     })

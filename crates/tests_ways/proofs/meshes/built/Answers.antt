@@ -4,6 +4,7 @@ use Rattle.std.proofs.lemmas.Result.{IfOk-weaker}
 use Rattle.nav_ground.specs.Limits.{IsShape, IsSetting}
 use Rattle.mesh_types.specs.declared.mesh.Mesh.{Mesh}
 use Rattle.mesh_types.specs.WholeMesh.{mesh_of}
+use Rattle.tile_build.proofs.TwoWayTiles.{tiles_two_way}
 use Rattle.nav_book.proofs.GroundTiles.{are_tiles}
 use Rattle.tests_ways.proofs.meshes.built.Goals as goal
 
@@ -14,3 +15,8 @@ pub returns-clause-setting : goal.returns-clause-setting
 unfolding mesh_of
 returns-clause-setting g c =
     IfOk-weaker c.joined.result _ _ (λ mesh is. subst IsSetting (sym (ap (λ (m : Mesh). m.setting) is)) c.requires.ground.setting) c.joined.ensures.mesh
+
+pub returns-clause-two_way : goal.returns-clause-two_way
+returns-clause-two_way g c =
+    c.joined.ensures.back
+    (rw (c.in_ok-tiles.ensures.tiles) (tiles_two_way c.args.ground.now [] c.requires.ground (All-nil IsShape)))

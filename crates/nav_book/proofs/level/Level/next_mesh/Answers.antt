@@ -1,9 +1,11 @@
 use Rattle.std.proofs.Common.{◌≡◌, ◌∙◌, ap, None, subst, sym, rules}
 use Rattle.mesh_types.specs.declared.mesh.Mesh.{Mesh}
+use Rattle.mesh_types.specs.Soundness.{IsSound}
 use Rattle.mesh_types.specs.WholeMesh.{mesh_of}
 use Rattle.tile_links.specs.NewTiles.{tiles_after}
 use Rattle.build_queue.specs.BookState.{BookState, least_awaited}
 use Rattle.nav_book.specs.LevelResults.{target_mesh}
+use Rattle.nav_book.proofs.Differing.{replaced_differs}
 use Rattle.nav_book.proofs.GroundTiles.{IsSetting-of_build}
 use Rattle.nav_book.proofs.KeptTiles.{are_news, few_after, is_whole, setting_fits, target_is}
 use Rattle.nav_book.proofs.level.Level.next_mesh.Goals as goal
@@ -31,6 +33,13 @@ after-requires-clause-setting c =
     (c.in_ok-shared.ensures.ok ∙ c.in_ok-mesh.ensures.mesh
     ∙ ap (λ (mesh : Mesh). mesh_of mesh.setting (tiles_after c.news-news.result.now mesh.tiles)) c.get.ensures
     ∙ target_is c.self.inside.queue c.self.inside.fresh c.self.inside.mesh c.self.invariant.tiles none c.news-news.result.now (search rules))
+
+pub after-requires-clause-differ : goal.after-requires-clause-differ
+after-requires-clause-differ c =
+    replaced_differs c.news-news.result.now c.self.inside.mesh _ (is_whole c.self.inside.queue c.self.inside.fresh c.self.inside.mesh c.self.invariant.tiles)
+    (subst IsSound (sym c.in_ok-shared.ensures.ok) c.in_ok-mesh.ensures.sound)
+    (c.in_ok-shared.ensures.ok ∙ c.in_ok-mesh.ensures.mesh
+    ∙ ap (λ (mesh : Mesh). mesh_of mesh.setting (tiles_after c.news-news.result.now mesh.tiles)) c.get.ensures)
 
 pub returns-clause-mesh : goal.returns-clause-mesh
 returns-clause-mesh c =
