@@ -4,8 +4,9 @@
 #     hosts/check.sh [LIBRARY]        the archive; else where `rt lib` of crates/nav_ffi leaves it
 #
 # The host in C plays each example plainly, with the compiler's checks of addresses and undefined behaviour, and, on one example, with each
-# allocation refused in turn; random calls, valid and not, follow, and
-# threads that ask views beside one that changes the level. The host in Python plays them through a shared object, and the one in Rust runs its test, where there is cargo.
+# allocation refused in turn; random calls, valid and not, follow, threads that ask views beside one that changes the level, and walkers that keep
+# their paths while doors open and close. The host in Python plays them through a shared object, and the one in Rust runs its test, where there is
+# cargo.
 # The hosts in C++, built by g++ for C++17 with these checks and by clang++ for C++20, and in C#, by Mono, play all inputs, asked of the
 # level and of a view; what no script asks for they have to tell alike. Each is skipped with a line where its compiler is not there.
 set -eu
@@ -13,7 +14,7 @@ here=$(cd "$(dirname "$0")" && pwd)
 lib=$(realpath "${1:-$here/../crates/nav_ffi/out/libnav_ffi.a}")
 to=$(mktemp -d)
 trap 'rm -rf "$to"' EXIT
-make -s -C "$here/c" LIB="$lib" TO="$to" "$to/play" "$to/checked" "$to/calls" "$to/readers" "$to/readers_checked" "$to/libnavd.so"
+make -s -C "$here/c" LIB="$lib" TO="$to" "$to/play" "$to/checked" "$to/calls" "$to/readers" "$to/readers_checked" "$to/doors" "$to/libnavd.so"
 count=0
 for out in "$here"/../examples/*.out; do
     input=${out%.out}.nav
@@ -37,6 +38,7 @@ echo "played $count times alike, and $((refused - 1)) times with an allocation r
 "$to/calls" "$here/../examples/storeroom.nav" 10000 2
 "$to/readers" "$here/../examples/storeroom.nav" 2000
 "$to/readers_checked" "$here/../examples/storeroom.nav" 2000
+"$to/doors" 60
 if command -v cargo > "$to/cargo"; then
     NAVD_LIBRARY_DIR=$(dirname "$lib") cargo test --quiet --offline --manifest-path "$here/rust/Cargo.toml" --target-dir "$to/target"
 fi

@@ -75,6 +75,7 @@ extern "C" {
 #define NAVD_FOREIGN 16u      /* the job is of a ground that is another there; nothing was done */
 #define NAVD_BUSY 17u         /* the job's handle holds a job; nothing was done */
 #define NAVD_TOO_MANY_SPANS 18u /* the triangles give more than 2000000 spans, the most that a field can have */
+#define NAVD_PARTIAL 19u        /* no way leads to the goal, or none within the limits; the way to the nearest place was found */
 #define NAVD_LIMIT 20u          /* a limit ended the search: a way there, if there is one, costs no less than `seen` */
 #define NAVD_CUT 21u            /* the kept path leads on in part */
 #define NAVD_NO_PLACE 22u       /* no place is in reach, or the place is none of the mesh */
@@ -279,14 +280,20 @@ typedef struct {
 } navd_ray;
 
 /* A way through a filter. The host writes `way`, the areas that may be entered, and what ends the search: nothing is looked at where the way there and
- * the straight rest together cost more than most_cost (UINT64_MAX: no limit), nor after most_polygons polygons (SIZE_MAX: no limit). The call leaves
- * what the way costs, or `seen`, the polygon in which it begins, and how many links and turns it has. */
+ * the straight rest together cost more than most_cost (UINT64_MAX: no limit), nor after most_polygons polygons (SIZE_MAX: no limit). With `partial` 1 the
+ * way to the nearest place is told where none to the goal is found. Distances are squared and added: that in the plane, and the gap between the goal's
+ * height and the floors of a polygon, of which each unit counts `rise` sixteenths, 0 to 1024; the goal's height is at most 65535 then. With `partial` 0
+ * `rise` is not read. The call leaves what the way costs, or `seen`, the polygons in which it begins and ends, the point where it ends, the least floor
+ * of that polygon, and how many links and turns it has. */
 typedef struct {
     navd_way way;
     uint64_t areas, most_cost;
     size_t most_polygons;
+    uint32_t partial, rise;
     uint64_t cost, seen;
-    navd_polygon first;
+    navd_polygon first, last;
+    navd_point end;
+    uint32_t end_y;
     size_t links, turns;
 } navd_plan;
 
@@ -299,16 +306,31 @@ typedef struct {
     size_t links, turns;
 } navd_kept;
 
-/* A flood. The host writes the place in which it begins, the areas that may be entered, and up to which cost it reaches; the call leaves how many
- * polygons it has. */
+/* A path that is kept and is to be mended. The host writes where its walker is and its goal, the polygon in which it was last, how many links are kept,
+ * how many of them are used at most from the walker on, whether the way comes back to the kept links (`join` 1) or leads straight to the goal (0), after
+ * how many polygons the search ends (SIZE_MAX: no limit), and the areas that may be entered. The call leaves the polygon in which the path begins, what it
+ * costs, or `seen`, how many of its links are the first of those that were kept, how many behind these were searched for, and how many links and turns
+ * there are. */
+typedef struct {
+    navd_way way;
+    navd_polygon first;
+    uint32_t join;
+    size_t count, keep, most_polygons;
+    uint64_t areas, cost, seen;
+    size_t kept, bridge, links, turns;
+} navd_repair;
+
+/* A flood. The host writes the place from which its walks lead, or with `back` 1 to which they lead, the areas that may be entered, and up to which
+ * cost it reaches; the call leaves how many polygons it has. */
 typedef struct {
     navd_point at;
-    uint32_t y;
+    uint32_t y, back;
     uint64_t areas, most_cost;
     size_t polygons;
 } navd_flood;
 
-/* A polygon of a flood, what a cheapest walk to it costs, and the place in the array of the polygon before it on such a walk; that of the first is 0. */
+/* A polygon of a flood, what a cheapest walk from the place to it costs, and the place in the array of the polygon before it on such a walk; of a flood
+ * back what one from it to the place costs, and the polygon behind it. That of the first is 0. */
 typedef struct {
     navd_polygon polygon;
     uint64_t cost;
@@ -412,6 +434,12 @@ uint32_t navd_frame_of(const navd_frame *sizes, const navd_world_point *low, con
  * NAVD_OK: all. NAVD_NO_ROOM: there is no room for the next one. NAVD_OUT_OF_RANGE: the next one has no place. In all three `count` were turned. */
 uint32_t navd_quantize(const navd_frame *frame, const navd_world_point *points, size_t how_many, navd_frame_place *places, size_t room,
                        size_t *count);
+
+/* Turns places of a frame into points, one after the other, whose numbers are the nearest floats, so that navd_quantize gives the places again; how many
+ * were turned is left at `count`.
+ * NAVD_OK: all. NAVD_NO_ROOM: there is no room for the next one. NAVD_OUT_OF_RANGE: the next one has no point. In all three `count` were turned. */
+uint32_t navd_dequantize(const navd_frame *frame, const navd_frame_place *places, size_t how_many, navd_world_point *points, size_t room,
+                         size_t *count);
 
 /* Opens the level of a mesh: three numbers of `vertices` a vertex, three of `corners` a triangle, and one of `areas` a triangle, or none at all:
  * 63 each. A triangle keeps its area where somebody can walk on it, and has 0 elsewhere; its upper side is up where (b - a) x (c - a) is. What stands
@@ -605,11 +633,14 @@ uint32_t navd_view_border_links(navd_view *view, uint32_t tile, navd_link *links
  * polygon in which one stands is not entered, whatever its area is. `costs` are 64 numbers by area, each 1 to 1000, for this question alone;
  * where there are 0 of them, the costs are those of the view. */
 
-/* A cheapest walk through a filter and a taut line through its portals, told as a path is. With all areas, no costs and no limits its cost, its
- * first polygon and the way in which the call ends are those of navd_view_find_path.
- * NAVD_OK. NAVD_LIMIT: each walk that leads there through the filter costs at least plan->seen, which alone is told. NAVD_NO_START, NAVD_NO_GOAL.
- * NAVD_NO_PATH: no walk leads there through the filter. NAVD_OUT_OF_RANGE: before all others. NAVD_EMPTY.
- * NAVD_NO_MEMORY. */
+/* A cheapest walk through a filter and a taut line through its portals, told as a path is. With all areas, no costs, no limits and plan->partial 0 its
+ * cost, its first polygon and the way in which the call ends are those of navd_view_find_path.
+ * NAVD_OK: plan->end is the goal. NAVD_NO_START. With plan->partial 1: NAVD_PARTIAL: the way is a cheapest one to plan->end, the point of plan->last
+ * that is nearest to the goal, of equally near ones the first by x, then z. No place is nearer of those to which a walk leads through the filter that
+ * costs, with the straight rest, less than plan->seen (UINT64_MAX: of all), and none as near costs less; where no walk may end at the goal the rest is
+ * 0. Each walk that leads to the goal through the filter costs at least plan->seen. With plan->partial 0: NAVD_LIMIT: each walk that leads there
+ * through the filter costs at least plan->seen, which alone is told. NAVD_NO_GOAL. NAVD_NO_PATH: no walk leads there through the filter.
+ * With both: NAVD_OUT_OF_RANGE: before all others. NAVD_EMPTY. NAVD_NO_MEMORY. */
 uint32_t navd_view_plan(navd_view *view, navd_plan *plan, const uint32_t *costs, size_t costs_count, navd_link *links, size_t links_room,
                         navd_turn *turns, size_t turns_room);
 
@@ -623,8 +654,21 @@ uint32_t navd_view_plan(navd_view *view, navd_plan *plan, const uint32_t *costs,
 uint32_t navd_view_check_path(navd_view *view, navd_kept *kept, const uint32_t *costs, size_t costs_count, navd_link *links, size_t count,
                               navd_turn *turns, size_t turns_room);
 
-/* The polygons to which an allowed walk leads that costs at most flood->most_cost, each once, by rising costs; the first is that of the place.
- * NAVD_OK. NAVD_NO_START. NAVD_OUT_OF_RANGE: before all others. NAVD_EMPTY. NAVD_NO_MEMORY. */
+/* The same, made whole by a search. repair->count links are kept, fewer than 4286967295, and `links` has room for as many at least. Of the links as
+ * which they lead on at most the first repair->keep are used, then a cheapest walk through the filter that leads to a polygon which holds the goal; or
+ * with repair->join 1, where some of the last links still lead to the goal as they were kept, a cheapest walk to where these begin. What the path
+ * enters twice is left out. So with repair->keep 0 and repair->join 0 no way is cheaper, and else one may be. The links of the path are laid over
+ * `links`: repair->kept of those that were kept, repair->bridge new ones, and the last ones that were kept.
+ * NAVD_OK. NAVD_NO_ROOM: there is too little room for the links or the turns; none was laid, `links` are as they were, and repair->links and
+ * repair->turns tell how many there are. NAVD_LIMIT: each walk through the filter that mends it costs at least repair->seen, which alone is told.
+ * NAVD_NO_START, as above. NAVD_NO_GOAL: no polygon holds the goal. NAVD_NO_PATH: no walk through the filter mends it. NAVD_OUT_OF_RANGE: before all
+ * others. NAVD_EMPTY. NAVD_NO_MEMORY. */
+uint32_t navd_view_repair_path(navd_view *view, navd_repair *repair, const uint32_t *costs, size_t costs_count, navd_link *links, size_t links_room,
+                               navd_turn *turns, size_t turns_room);
+
+/* The polygons to which an allowed walk leads from the place that costs at most flood->most_cost, or with flood->back 1 those from which one leads to the
+ * place, each once, by rising costs; the first is that of the place.
+ * NAVD_OK. NAVD_NO_START: no polygon holds the place. NAVD_OUT_OF_RANGE: before all others. NAVD_EMPTY. NAVD_NO_MEMORY. */
 uint32_t navd_view_flood(navd_view *view, navd_flood *flood, const uint32_t *costs, size_t costs_count, navd_reached *reached, size_t room);
 
 /* The nearest of many goals: no allowed walk to any of them costs less than that to this one, of which the links are laid into `links`. With one goal, no

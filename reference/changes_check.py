@@ -7,20 +7,12 @@ it had when that length was published.
 
 usage: reference/changes_check.py LIBRARY [LEVELS [SEED]]     (40 levels, seed 1; LIBRARY is what `make libnavd.so` of hosts/c makes)
 """
-import os
 import random
-import subprocess
 import sys
-from pathlib import Path
 
-TOP = Path(__file__).resolve().parent.parent
-if len(sys.argv) < 2:
-    sys.exit(__doc__)
-os.environ["NAVD_LIBRARY"] = str(Path(sys.argv[1]).resolve())
-sys.path.insert(0, str(TOP / "hosts" / "python"))
-import navd  # noqa: E402
+from library import host_and_levels, level_text
 
-levels, first_seed = [int(word) for word in sys.argv[2:4]] + [40, 1][len(sys.argv[2:4]):]
+navd, levels, first_seed = host_and_levels(__doc__, 40)
 NOT_YET = 8
 
 
@@ -141,9 +133,7 @@ def run(seed):
     random.seed(seed)
     kind, mesh, clear = random.choice(["rough", "smooth"]), random.choice(["strips", "contours"]), random.randrange(2)
     side, error = random.choice([8, 15, 24]), random.choice([0, 49, 169])
-    words = [side, 0, seed, mesh, error, 0, kind, "areas", "none", clear]
-    text = subprocess.run([sys.executable, str(TOP / "bench" / "level_input.py"), *map(str, words)], capture_output=True, text=True, check=True).stdout
-    text = text[:text.index("end\n") + 4]
+    text = level_text(side, 0, seed, mesh, error, 0, kind, "areas", "none", clear)
     field = Field(text)
     pairs = 0
     with navd.Level(text.encode()) as level:

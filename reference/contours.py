@@ -2,10 +2,11 @@
 Dictionaries, lists and exact fractions; it shares nothing with `navd`, and is slow.
 
 A place is (x, z, level) and names a cell; a corner is (x, z) in whole cells; directions are 0 to 3 for x - 1, z + 1, x + 1, z - 1.
-A built tile is its polygons, its inner links and its rim:
+A built tile is its polygons, its inner links, its rim and its homes:
   polygons   a list of (corners counterclockwise, area, least floor, greatest floor)
   links      a list of (polygon, edge, polygon entered, left end, right end), the ends in sixteenths of a cell
   rim        for (place, side), where that cell has a kept neighbour across that side: (polygon, edge)
+  homes      for each polygon the places of the cells that it stands for: those of its region, or of its strip
 """
 from fractions import Fraction
 
@@ -224,8 +225,9 @@ def facing(door, doors):
 
 def build_by_outlines(tile, error):
     """The built tile by outlines, or None where a contour is flat or an outline cannot be cut."""
-    polygons, doors, rim_edges = [], [], []
+    polygons, homes, doors, rim_edges = [], [], [], []
     for region, strips in enumerate(tile.regions):
+        places = [place for strip in strips for place in strip]
         contour = tile.contour(region)
         kept = outline(contour, error)
         corners = kept and [contour[i][0] for i in kept]
@@ -237,7 +239,8 @@ def build_by_outlines(tile, error):
                 j = piece[(edge + 1) % len(piece)]
                 code = contour[kept[i]][2] if j == (i + 1) % len(corners) else None
                 doors.append((len(polygons), edge, region, (i, j), (corners[i], corners[j]), code))
-            polygons.append(([corners[i] for i in piece],) + tile.floors([place for strip in strips for place in strip]))
+            polygons.append(([corners[i] for i in piece],) + tile.floors(places))
+            homes.append(places)
         for at, (_, _, code, (place, dir)) in enumerate(contour):
             if code[0] == "side":
                 before = [n for n, i in enumerate(kept) if i <= at]
@@ -253,7 +256,7 @@ def build_by_outlines(tile, error):
         if other is not None:
             links.append((door[0], door[1], other[0], sixteenths(door[4][1]), sixteenths(door[4][0])))
     rim = {(place, dir): by_places[region, i, j][:2] for region, i, j, place, dir in rim_edges}
-    return polygons, links, rim
+    return polygons, links, rim, homes
 
 
 def runs_of(positions):
@@ -290,7 +293,7 @@ def build_by_strips(tile):
                     rim[place, dir] = (number, 3 - dir)
             for first, end, to in runs_of(entered):
                 links.append((number, 3 - dir, to) + portal(dir, line, first, end))
-    return polygons, links, rim
+    return polygons, links, rim, tile.strips
 
 
 def build(window, cells, near, error):

@@ -308,7 +308,7 @@ def published_mesh():
     free = free_now()
     polygons, links, rims = {}, {}, {}
     for tile in range(tile_count):
-        made, inner, rim = built(tile, free[tile])
+        made, inner, rim, _ = built(tile, free[tile])
         for i, polygon in enumerate(made):
             polygons[tile, i] = polygon
             links[tile, i] = []

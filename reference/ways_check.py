@@ -1,279 +1,402 @@
 #!/usr/bin/env python3
 """Checks the further questions about ways that the library answers of a view, on random levels of both kinds of meshes, with and without
-clearance, under obstacles that stop agents or set areas: ways through a filter, floods, and paths that are kept while obstacles come and go.
-The mesh is worked out by `play_check.py` from the level's text and its obstacles. Least costs are found in rounds over all links, until none
-falls any more; what a question has to be answered is read off them here, by the rules of the header.
+clearance, under obstacles that stop agents or set areas: ways through a filter and to the nearest place, floods from a place and to it, the nearest of
+many goals, walkers that follow their path, and paths that are kept and mended while obstacles come and go. What a question has to be answered is read
+off the mesh that the view shows, by the rules of the header: least costs in rounds over links, nearest places by all columns of all polygons, walks
+link by link. That mesh itself is compared once in each level with what `play_check.py` works out of the level's text and its obstacles.
 
 usage: reference/ways_check.py LIBRARY [LEVELS [SEED]]     (20 levels, seed 1; LIBRARY is what `make libnavd.so` of hosts/c makes)
 """
-import math
-import os
 import random
-import subprocess
 import sys
 import tempfile
+from collections import Counter
 from pathlib import Path
-from unittest import mock
 
-TOP = Path(__file__).resolve().parent.parent
-if len(sys.argv) < 2:
-    sys.exit(__doc__)
-os.environ["NAVD_LIBRARY"] = str(Path(sys.argv[1]).resolve())
-sys.path.insert(0, str(TOP / "hosts" / "python"))
-sys.path.insert(0, str(TOP / "reference"))
-import navd  # noqa: E402
+from library import TOP, host_and_levels, level_text, refuser, script
+from ways_mesh import NEVER, Filter, Mesh, distance, leg
 
-levels, first_seed = [int(word) for word in sys.argv[2:4]] + [20, 1][len(sys.argv[2:4]):]
-NEVER = 2**64 - 1
+navd, levels, first_seed = host_and_levels(__doc__, 20)
+refused = refuser(navd)
+counts, rules = Counter(), {}
 
 
-class Second:
-    """What play_check.py makes of a level's text, and of the obstacles that are published."""
+class Level:
+    """A level's text, what its head says, its obstacles by their numbers, and the view that is asked."""
 
-    def __init__(self, text):
-        self.names = {"__name__": "play_check", "__file__": str(TOP / "reference" / "play_check.py")}
+    def __init__(self, text, level, view):
+        self.text, self.level, self.view, self.obstacles = text, level, view, {}
+        head = [line.split() for line in text.splitlines() if not line.startswith("span ")]
+        numbers = {words[0]: [int(word) for word in words[1:]] for words in head if words[0] in ("size", "tile", "agent", "limit")}
+        self.costs = {int(words[1]): int(words[2]) for words in head if words[0] == "cost"}
+        self.width, self.depth = numbers["size"]
+        self.tiles = -(-self.width // numbers["tile"][0]) * -(-self.depth // numbers["tile"][0])
+        self.climb, self.limit = numbers["agent"][1], numbers["limit"][0]
+
+    def look(self):
+        self.view.look(self.level)
+        self.mesh = Mesh(self.view, self.tiles, self.climb, self.costs)
+
+    def second(self):
+        """What `play_check.py` makes of the text, with the mesh under the obstacles that are there."""
         with tempfile.TemporaryDirectory() as folder:
             given, told = Path(folder) / "in", Path(folder) / "out"
-            given.write_text(text + "script 1 1\n")
+            given.write_text(self.text + "script 1 1\n")
             told.write_text("done 0 0\n")
-            with mock.patch.object(sys, "argv", ["play_check.py", str(given), str(told)]):
-                exec(compile((TOP / "reference" / "play_check.py").read_text(), "play_check.py", "exec"), self.names)
-        self.climb, self.own_costs = self.names["climb"], self.names["costs"]
+            names, _ = script(TOP / "reference" / "play_check.py", given, told)
+        names["published"] = {number: (*shape, area or None) for number, (shape, area) in self.obstacles.items()}
+        return names
 
-    def publish(self, obstacles):
-        """The mesh under these obstacles, by their numbers."""
-        self.names["published"] = {number: (*shape, area or None) for number, (shape, area) in obstacles.items()}
-        self.polygons, self.links = self.names["mesh_now"]()
+    def compare(self):
+        """The mesh that is shown is that of the second program."""
+        polygons, links = self.second()["mesh_now"]()
+        mesh = self.mesh
+        assert {name: (list(map(tuple, face.corners)), face.area, face.low, face.high) for name, face in mesh.faces.items()} == {
+            name: (list(map(tuple, corners)), *rest) for name, (corners, *rest) in polygons.items()}, "the mesh has other polygons"
+        assert mesh.listed == {(mesh.number[start], edge, mesh.number[end], left, right)
+                               for start, leave in links.items() for edge, end, left, right in leave}, "the mesh has other links"
+        counts["meshes"] += 1
 
-    def locate(self, place):
-        return self.names["locate"]((self.polygons, self.links), place.x, place.z, place.y)
-
-    def holds(self, name, place):
-        """Whether a polygon holds a place in its storey."""
-        corners, _, low, high = self.polygons[name]
-        return max(low - place.y, place.y - high, 0) <= self.climb and self.names["holds"](corners, (place.x, place.z))
-
-    def gap(self, name, place):
-        _, _, low, high = self.polygons[name]
-        return max(low - place.y, place.y - high, 0)
-
-    def weight(self, start, end, costs):
-        """The distance of the middles, rounded up and at least 1, times the cost of the area that is entered."""
-        one, other = (self.names["middle"](self.polygons[name][0]) for name in (start, end))
-        square = (one[0] - other[0]) ** 2 + (one[1] - other[1]) ** 2
-        length = math.isqrt(square)
-        length += length * length < square
-        area = self.polygons[end][1]
-        return max(1, length) * (costs[area] if costs else self.own_costs.get(area, 1))
-
-    def is_open(self, name, areas):
-        return areas >> self.polygons[name][1] & 1 == 1
-
-    def allowed(self, areas):
-        """The links that enter polygons of open areas: start, edge, end, left, right."""
-        return [(start, *link) for start, links in self.links.items() for link in links if self.is_open(link[1], areas)]
-
-    def least(self, first, areas, costs):
-        """The least costs of allowed walks from a polygon, found in rounds."""
-        least, weighed = {first: 0}, [(link[0], link[2], self.weight(link[0], link[2], costs)) for link in self.allowed(areas)]
-        while True:
-            fell = False
-            for start, end, weight in weighed:
-                if start in least and least[start] + weight < least.get(end, NEVER):
-                    least[end], fell = least[start] + weight, True
-            if not fell:
-                return least
+    def change(self, kept):
+        """Adds obstacles, many of them on ways that are kept, and removes some, and publishes."""
+        for _ in range(random.randrange(1, 4)):
+            if len(self.obstacles) == self.limit or self.obstacles and random.randrange(2):
+                number = random.choice(list(self.obstacles))
+                self.level.remove(number)
+                del self.obstacles[number]
+                continue
+            (kind, n), area = shape = random_shape(self, kept)
+            if kind == "block":
+                self.obstacles[self.level.add_block(navd.Block(n[0:2], n[2:4], n[4:6]), area)] = shape
+            else:
+                self.obstacles[self.level.add_cylinder(navd.Cylinder(*n[:3], n[3:]), area)] = shape
+        self.level.settle()
 
     def is_taut(self, start, links, goal, turns):
         told = [(turn.at, "LR"[turn.is_right], turn.link) for turn in turns]
-        return self.names["is_taut"]((start.x, start.z), [(link.left, link.right) for link in links], (goal.x, goal.z), told) is None
-
-
-def name_of(polygon):
-    return polygon.tile, polygon.index
-
-
-def link_of(link):
-    """A link of the host as one of the mesh."""
-    return name_of(link.start), link.edge, name_of(link.end), link.left, link.right
-
-
-def check_walk(second, found, first, areas, costs):
-    """That links are an allowed walk from a polygon at the cost that is told; the polygon to which it leads."""
-    at, cost, allowed = first, 0, second.allowed(areas)
-    for link in found.links:
-        it = link_of(link)
-        assert it[0] == at and it in allowed, f"{it} is no allowed link from {at}"
-        cost += second.weight(it[0], it[2], costs)
-        at = it[2]
-    assert cost == found.cost, f"the links cost {cost}, and {found.cost} is told"
-    return at
+        if not rules:
+            rules.update(self.second())
+        return rules["is_taut"]((start.x, start.z), [link[3:] for link in links], (goal.x, goal.z), told) is None
 
 
 # == The questions ==
 
 
-def ask_plan(second, view, start, goal, areas, costs):
-    """Compares a way through a filter, within limits now and then. What is told."""
-    most_cost, most_polygons = random.choice([NEVER, NEVER, random.randrange(2000)]), random.choice([NEVER, NEVER, random.randrange(20)])
-    told, first, last = view.plan(start, goal, areas, costs, most_cost, most_polygons), second.locate(start), second.locate(goal)
-    least = None if first is None else second.least(first, areas, costs)
-    due = None if first is None else least.get(last)
-    if isinstance(told, navd.Limited):
-        # each walk there costs at least what was seen; the search saw beyond its limit, or met as many polygons as it may: those that can be met
-        # are the first, and what a link leaves to from one that is reached
-        met = {first} | {link[1] for name in least for link in second.links[name]}
-        assert last is not None and told.seen <= (NEVER if due is None else due), told
-        assert most_cost < told.seen or most_polygons <= len(met), told
-        return told
-    if due is None:
-        why = navd.NO_START if first is None else navd.NO_GOAL if last is None else navd.NO_PATH
-        assert told == navd.NoPath(why), told
-        return told
-    assert isinstance(told, navd.Path_) and (name_of(told.first), told.cost) == (first, due), told
-    assert check_walk(second, told, first, areas, costs) == last, "the links lead elsewhere"
-    assert second.is_taut(start, told.links, goal, told.turns), "the line is not taut"
-    return told
+def check_walk(mesh, path, first, by):
+    """That links are an allowed walk from a polygon at the cost that is told; these, and the polygon to which they lead."""
+    links = [mesh.link(link) for link in path.links]
+    last = mesh.leads(first, links, by)
+    assert last is not None, "the links are no allowed walk"
+    assert mesh.cost_of(links, by) == path.cost, f"the links cost {mesh.cost_of(links, by)}, and {path.cost} is told"
+    return links, last
 
 
-def ask_flood(second, view, start, areas, costs):
-    most = random.choice([0, random.randrange(400), random.randrange(4000), NEVER])
-    told, first = view.flood(start, most, areas, costs), second.locate(start)
+def check_way(level, path, start, goal, first, by):
+    """That it is a cheapest allowed walk from a polygon, with a taut line to a point; the polygon to which it leads."""
+    mesh = level.mesh
+    assert mesh.polygon(path.first) == first, f"it begins in {path.first}"
+    links, last = check_walk(mesh, path, first, by)
+    assert path.cost == mesh.least(first, by)[last], "a cheaper walk is there"
+    assert level.is_taut(start, links, goal, path.turns), "the line is not taut"
+    return last
+
+
+def check_seen(mesh, seen, due, first, by, most_cost, most_polygons):
+    """A search was cut no sooner than its limits say, and each walk to the goal costs at least what it saw."""
+    assert seen <= due and (most_cost < seen or most_polygons <= mesh.meets(first, by)), f"seen {seen}"
+
+
+def check_nearest(level, told, start, goal, rise, first, last, by, limits):
+    """The way to the nearest place."""
+    mesh, end, aim = level.mesh, told.end, (goal.x, goal.z)
+    assert (last is None or mesh.least(first, by).get(last) is None) if told.seen == NEVER else True, "a way to the goal is there"
+    if told.seen != NEVER:
+        check_seen(mesh, told.seen, mesh.least(first, by).get(last, NEVER), first, by, *limits)
+    at = check_way(level, told.path, start, end.at, first, by)
+    assert mesh.polygon(end.polygon) == at and end.at.y == mesh.floors[at][0], f"it ends in {end}"
+    square, point = mesh.nearest(at, aim)
+    assert point == (end.at.x, end.at.z), f"the polygon's nearest point is {point}"
+    if random.randrange(200) == 0:
+        assert mesh.nearest_by_all(at, aim) == (square, point), "the nearest of all points"
+    near = square + (rise * mesh.gap(at, goal.y)) ** 2
+    heads_for = last is not None and (last == first or mesh.is_open(last, by))
+    for other, cost in mesh.least(first, by).items():
+        rest = distance(mesh.middle[other], mesh.middle[last]) * mesh.least_cost(by) if heads_for else 0
+        apart = (rise * mesh.gap(other, goal.y)) ** 2
+        if (told.seen == NEVER or cost + rest < told.seen) and mesh.from_box(other, aim) + apart <= near:
+            other_near = mesh.nearest(other, aim)[0] + apart
+            assert (near, told.path.cost) <= (other_near, cost), f"a point of {mesh.names[other]} is nearer, or as near and costs less"
+
+
+def ask_plan(level, start, goal, by):
+    """Compares a way through a filter, within limits now and then, and to the nearest place now and then. The path that is told, and where it ends."""
+    mesh, limits = level.mesh, (random.choice([NEVER, NEVER, random.randrange(2000)]), random.choice([NEVER, NEVER, random.randrange(20)]))
+    rise = random.choice([None, None, 0, 16, random.randrange(1025)])
+    told = level.view.plan(start, goal, by.areas, by.costs, *limits, rise)
+    first, last = mesh.locate(start), mesh.locate(goal)
+    due = NEVER if first is None else mesh.least(first, by).get(last, NEVER)
+    if first is None:
+        assert told == navd.NoPath(navd.NO_START), told
+        counts["plans without a start"] += 1
+    elif isinstance(told, navd.Path_):
+        assert due == told.cost <= limits[0] and len(told.links) <= limits[1], told
+        assert check_way(level, told, start, goal, first, by) == last, "it leads elsewhere"
+        counts["whole plans"] += 1
+        return told, goal
+    elif isinstance(told, navd.Partial):
+        assert rise is not None and told.path.cost <= limits[0] and len(told.path.links) <= limits[1], told
+        check_nearest(level, told, start, goal, rise, first, last, by, limits)
+        counts["plans to the nearest place"] += 1
+        return told.path, told.end.at
+    elif isinstance(told, navd.Limited):
+        assert rise is None and last is not None, told
+        check_seen(mesh, told.seen, due, first, by, *limits)
+        counts["plans that met a limit"] += 1
+    else:
+        assert rise is None and due == NEVER and told == navd.NoPath(navd.NO_GOAL if last is None else navd.NO_PATH), told
+        counts["plans without a goal or a way"] += 1
+    return None, None
+
+
+def ask_flood(level, start, by):
+    mesh, most, back = level.mesh, random.choice([0, random.randrange(400), random.randrange(4000), NEVER]), random.randrange(2) == 1
+    told, first = level.view.flood(start, most, by.areas, by.costs, back), mesh.locate(start)
+    counts["floods back" if back else "floods"] += 1
     if first is None:
         assert told == navd.NoPath(navd.NO_START), told
         return
-    due = {name: cost for name, cost in second.least(first, areas, costs).items() if cost <= most}
-    assert [name_of(told[0].polygon), told[0].cost, told[0].via] == [first, 0, 0], told[0]
-    assert [it.cost for it in told] == sorted(it.cost for it in told), "the costs do not rise"
-    assert len(told) == len(due) and {name_of(it.polygon): it.cost for it in told} == due, "other polygons, or other costs"
-    steps = {(link[0], link[2]) for link in second.allowed(areas)}
+    due = {at: cost for at, cost in mesh.least(first, by, back).items() if cost <= most}
+    at = [mesh.polygon(it.polygon) for it in told]
+    assert (at[0], told[0].cost, told[0].via) == (first, 0, 0), told[0]
+    assert all(one.cost <= two.cost for one, two in zip(told, told[1:])), "the costs do not rise"
+    assert len(told) == len(due) and all(due.get(name) == it.cost for name, it in zip(at, told)), "other polygons, or other costs"
     for place, it in enumerate(told[1:], 1):
-        before, name = told[it.via], name_of(it.polygon)
-        assert it.via < place and (name_of(before.polygon), name) in steps, it
-        assert before.cost + second.weight(name_of(before.polygon), name, costs) == it.cost, it
+        start, end = (at[place], at[it.via]) if back else (at[it.via], at[place])
+        assert it.via < place and (start, end) in mesh.length and mesh.is_open(end, by), it
+        assert told[it.via].cost + mesh.weight(start, end, by) == it.cost, it
 
 
-def led_on(second, path, first, areas):
-    """The links as which kept ones lead on from a polygon: for each kept one those that may stand for it."""
-    at, links = first, []
-    for kept in path.links:
-        on = [(at, *link) for link in second.links[at] if link[2:] == (kept.left, kept.right) and second.is_open(link[1], areas)]
-        if not on:
-            break
-        assert len(on) == 1, "two links of a polygon lead through one portal"
-        links.append(on[0])
-        at = on[0][2]
-    return links, at
+def ask_goals(level, start, goals, by):
+    """The nearest of many goals."""
+    mesh, most = level.mesh, random.choice([NEVER, NEVER, random.randrange(2000)])
+    told, first, lasts = level.view.nearest_goal(start, goals, most, by.areas, by.costs), mesh.locate(start), [mesh.locate(goal) for goal in goals]
+    counts["nearest of many goals"] += 1
+    due = NEVER if first is None else min([mesh.least(first, by).get(last, NEVER) for last in lasts], default=NEVER)
+    if first is None or due == NEVER and not isinstance(told, navd.Limited):
+        why = navd.NO_START if first is None else navd.NO_PATH if any(last is not None for last in lasts) else navd.NO_GOAL
+        assert told == navd.NoPath(why), told
+    elif isinstance(told, navd.Limited):
+        assert most < told.seen <= due and any(last is not None for last in lasts), told
+    else:
+        assert told.cost == due <= most and mesh.polygon(told.first) == first, told
+        assert check_walk(mesh, told, first, by)[1] == lasts[told.which] == mesh.polygon(told.last), "the links lead elsewhere"
 
 
-def ask_check(second, view, path, start, goal, areas, costs):
+def ask_check(level, path, start, goal, by):
     """Compares how far a path leads on. What is told."""
-    told = view.check(path, start, goal, areas, costs)
-    begins = [name for name in second.polygons if second.holds(name, start)
-              and (not path.links or any(link[2:] == (path.links[0].left, path.links[0].right) for link in second.links[name]))]
-    if not begins:
+    mesh, kept = level.mesh, [level.mesh.link(link) for link in path.links]
+    told, first = level.view.check(path, start, goal, by.areas, by.costs), mesh.beginning(path, kept, start)
+    if first is None:
         assert told == navd.NoPath(navd.NO_START), told
+        counts["checks without a start"] += 1
         return told
-    first = name_of(path.first) if name_of(path.first) in begins else min((second.gap(name, start), name) for name in begins)[1]
-    links, last = led_on(second, path, first, areas)
-    is_whole = len(links) == len(path.links) and second.holds(last, goal)
+    led = mesh.lead(first, kept, by)
+    is_whole = len(led) == len(kept) and (led[-1][2] if led else first) in mesh.holders(goal)
     assert type(told) is (navd.Path_ if is_whole else navd.Cut), told
-    assert name_of(told.first) == first and [link_of(link) for link in told.links] == links, "other links lead on"
-    check_walk(second, told, first, areas, costs)
-    assert not is_whole or second.is_taut(start, told.links, goal, told.turns), "the line is not taut"
+    links, _ = check_walk(mesh, told, first, by)
+    assert mesh.polygon(told.first) == first and links == led, "other links lead on"
+    assert not is_whole or level.is_taut(start, links, goal, told.turns), "the line is not taut"
+    counts["whole checks" if is_whole else "checks that are cut"] += 1
     return told
+
+
+def ask_repair(level, path, start, goal, by):
+    """Compares a path that is mended."""
+    mesh, kept = level.mesh, [level.mesh.link(link) for link in path.links]
+    keep, join, most = random.choice([NEVER, NEVER, 0, random.randrange(8)]), random.randrange(3) > 0, random.choice([NEVER, NEVER, random.randrange(12)])
+    told, first = level.view.repair(path, start, goal, by.areas, by.costs, keep, join, most), mesh.beginning(path, kept, start)
+    goal_at = mesh.locate(goal)
+    if first is None or goal_at is None:
+        assert told == navd.NoPath(navd.NO_START if first is None else navd.NO_GOAL), told
+        counts["repairs without a start or a goal"] += 1
+        return
+    led = mesh.lead(first, kept, by)
+    part = led[:keep]
+    at = part[-1][2] if part else first
+    all_kept = len(part) == len(kept) and at in mesh.holders(goal)
+    rest = mesh.rest(kept, len(led), goal, by) if join and not all_kept else []
+    to = at if all_kept else rest[0][0] if rest else goal_at
+    due = mesh.least(at, by).get(to, NEVER)
+    if isinstance(told, navd.Limited):
+        assert told.seen <= due and most <= mesh.meets(at, by) and not all_kept, told
+        counts["repairs that met a limit"] += 1
+        return
+    if due == NEVER:
+        assert told == navd.NoPath(navd.NO_PATH), told
+        counts["repairs without a way"] += 1
+        return
+    assert isinstance(told, navd.Repaired) and mesh.polygon(told.path.first) == first, told
+    links, last = check_walk(mesh, told.path, first, by)
+    first_part, bridge, joined = links[:told.kept], links[told.kept:told.kept + told.bridge], links[told.kept + told.bridge:]
+    assert first_part == part[:told.kept] and told.kept + told.bridge <= len(links), "other links are kept"
+    assert joined == (rest[-len(joined):] if joined else []), "other links are joined"
+    assert last == (at if all_kept else rest[-1][2] if rest else goal_at), "it leads elsewhere"
+    if bridge:
+        one, other = bridge[0][0], bridge[-1][2]
+        piece = mesh.cost_of(bridge, by)
+        assert mesh.least(at, by)[one] + piece + mesh.least(other, by)[to] == due, "the bridge is no piece of a cheapest walk"
+    behind = [{link[0] for link in links} for links in (bridge + joined, joined)]
+    assert not {link[0] for link in first_part} & (behind[0] | {last}) and not {link[0] for link in bridge} & (behind[1] | {last}), "a loop is left"
+    assert level.is_taut(start, links, goal, told.path.turns), "the line is not taut"
+    counts["repairs"] += 1
+
+
+def due_on_line(mesh, path, start, goal, far, link, ahead):
+    """Where a walker on a path is: where the path is cut, the point, its polygon and the links behind it, or that it is nowhere."""
+    links = [mesh.link(it) for it in path.links]
+    polygons = [mesh.polygon(path.first)] + [it[2] for it in links]
+    point, place, left, end = (start.x, start.z), 0, list(path.turns), (goal.x, goal.z)
+    while left and leg(point, left[0].at) <= far:
+        far -= leg(point, left[0].at)
+        point, place = left[0].at, max(place, left.pop(0).link + 1)
+    place = max(place, link)
+    toward, upto = (left[0].at, max(place, left[0].link)) if left else (end, len(links))
+    looks_to = max(upto, min(link + ahead, len(links)))
+    for at in range(link, looks_to):
+        if links[at] not in mesh.listed or links[at][0] != polygons[at]:
+            return "cut", at
+    if looks_to == len(links) and (polygons[-1] is None or not mesh.holds(polygons[-1], end)):
+        return "cut", looks_to
+    if not left and leg(point, end) <= far:
+        point, place = end, len(links)
+    elif found := mesh.part(polygons[place:upto + 1], point, toward, far):
+        point, place = found[0], place + found[1]
+    elif polygons[place] is None or not mesh.holds(polygons[place], point):
+        return "nowhere", None
+    return "there", (point, polygons[place], place)
+
+
+def ask_follow(level, path, start, goal, far, link, ahead):
+    """Compares where a walker is. How many links are behind it, or None where it cannot go on."""
+    told = level.view.follow(path, start, goal, far, link, ahead)
+    kind, due = due_on_line(level.mesh, path, start, goal, far, link, ahead)
+    counts["steps of followers"] += 1
+    if kind == "nowhere":
+        assert told == navd.NoPath(navd.NO_START), told
+    elif kind == "cut":
+        assert told == navd.Followed(due, None), told
+        counts["of these cut"] += 1
+    else:
+        (x, z), at, behind = due
+        assert told == navd.Followed(behind, navd.MeshPlace(navd.Polygon(*level.mesh.names[at]), navd.Place(x, z, level.mesh.floors[at][0]))), told
+        return behind
+    return None
+
+
+def follow(level, path, start, goal):
+    """A walker goes along a path that was found in this mesh, and arrives."""
+    length, pace, far, link = 0, random.choice([7, 40, 200]), 0, 0
+    for one, two in zip([(start.x, start.z)] + [turn.at for turn in path.turns], [turn.at for turn in path.turns] + [(goal.x, goal.z)]):
+        length += leg(one, two)
+    pace = max(pace, length // 12)
+    while True:
+        far = min(length, far + random.randrange(1, 2 * pace))
+        link = ask_follow(level, path, start, goal, far, random.choice([0, link, link]), random.choice([0, 8, NEVER >> 32]))
+        assert link is not None, "a walker does not get on"
+        if far == length:
+            break
+    assert link == len(path.links), "a walker does not arrive"
+    counts["followers that arrived"] += 1
 
 
 # == Levels ==
 
 
-def random_shape(second):
-    x, z = random.randrange(second.names["width"]), random.randrange(second.names["depth"])
+def random_shape(level, kept):
+    x, z = random.randrange(level.width), random.randrange(level.depth)
+    portals = [link.left for path, *_ in kept for link in path.links]
+    if portals and random.randrange(3):
+        x, z = (max(0, n // 16 - random.randrange(3)) for n in random.choice(portals))
     low, area = random.choice([0, 5, 20]), random.choice([0, 0, 5, 63])
     if random.randrange(2):
-        numbers = [x, min(1023, x + random.randrange(6)), low, low + 60, z, min(1023, z + random.randrange(6))]
-        return ("block", numbers), area
+        return ("block", [x, min(1023, x + random.randrange(6)), low, low + 60, z, min(1023, z + random.randrange(6))]), area
     return ("cylinder", [2 * x, 2 * z, random.randrange(3), low, low + 60]), area
 
 
-def change(level, second, obstacles):
-    """Adds obstacles and removes some, and publishes."""
-    for _ in range(random.randrange(1, 4)):
-        if obstacles and random.randrange(2):
-            number = random.choice(list(obstacles))
-            level.remove(number)
-            del obstacles[number]
-            continue
-        (kind, numbers), area = shape = random_shape(second)
-        if kind == "block":
-            x0, x1, y0, y1, z0, z1 = numbers
-            obstacles[level.add_block(navd.Block((x0, x1), (y0, y1), (z0, z1)), area)] = shape
-        else:
-            cx, cz, r, y0, y1 = numbers
-            obstacles[level.add_cylinder(navd.Cylinder(cx, cz, r, (y0, y1)), area)] = shape
-    level.settle()
-    second.publish(obstacles)
-
-
-def random_place(second):
+def random_place(level):
     """Mostly a place that a polygon holds, or one on its edge."""
-    if not second.polygons or random.randrange(8) == 0:
-        return navd.Place(random.randrange(-20, 16 * second.names["width"] + 20), random.randrange(-20, 16 * second.names["depth"] + 20), 10)
-    corners, _, low, high = random.choice(list(second.polygons.values()))
-    weights = [random.choice([0, 0, 1, 2]) for _ in corners]
+    if not level.mesh.names or random.randrange(8) == 0:
+        return navd.Place(random.randrange(-20, 16 * level.width + 20), random.randrange(-20, 16 * level.depth + 20), random.choice([10, 10, 40]))
+    at = random.randrange(len(level.mesh.names))
+    weights = [random.choice([0, 0, 1, 2]) for _ in level.mesh.corners[at]]
     weights[random.randrange(len(weights))] += 1
-    x, z = (16 * sum(weight * corner[axis] for weight, corner in zip(weights, corners)) // sum(weights) for axis in (0, 1))
-    return navd.Place(x, z, random.randint(low, high))
+    x, z = (sum(weight * corner[axis] for weight, corner in zip(weights, level.mesh.corners[at])) // sum(weights) for axis in (0, 1))
+    return navd.Place(x, z, random.randint(*level.mesh.floors[at]))
 
 
-def random_filter():
-    areas = random.choice([NEVER, NEVER, NEVER & ~(1 << 5), NEVER & ~(1 << 63), random.randrange(2**64)])
-    costs = random.choice([[], [random.randrange(1, 1001) for _ in range(64)], [10] * 64])
-    return areas, costs
+def random_filters():
+    """Some filters for the questions of one mesh."""
+    areas = lambda: random.choice([NEVER, NEVER, NEVER & ~(1 << 5), NEVER & ~(1 << 63), random.randrange(2**64)])
+    costs = lambda: random.choice([(), tuple(random.randrange(1, 1001) for _ in range(64)), (10,) * 64])
+    return [Filter(areas(), costs()) for _ in range(4)]
 
 
-def refused(call, *words):
-    try:
-        call(*words)
-        assert False, f"{words} are answered"
-    except navd.NavdError as refusal:
-        assert refusal.status == navd.OUT_OF_RANGE, refusal.status
+def refuse(view):
+    origin = navd.Place(0, 0)
+    refused(view.plan, origin, navd.Place(0, -65537))
+    refused(view.plan, origin, origin, NEVER, (), NEVER, NEVER, 1025)
+    refused(view.plan, origin, navd.Place(0, 0, 65536), NEVER, (), NEVER, NEVER, 16)
+    refused(view.flood, navd.Place(65537, 0), 5)
+    refused(view.flood, origin, 5, NEVER, [1] * 63)
+    refused(view.flood, origin, 5, NEVER, [1] * 63 + [1001])
+
+
+def ask_all(level, kept):
+    """Questions of the mesh that is shown, and of the paths that were kept from the one before. The paths that are kept from this one."""
+    for path, start, goal, by in kept:
+        ask_check(level, path, start, goal, by)
+        ask_repair(level, path, start, goal, by)
+        ask_follow(level, path, start, goal, random.choice([0, random.randrange(600)]), random.randrange(len(path.links) + 1), random.choice([0, 3, NEVER >> 32]))
+    kept, filters = [], random_filters()
+    for _ in range(16):
+        start, goal, by = random_place(level), random_place(level), random.choice(filters)
+        path, end = ask_plan(level, start, goal, by)
+        if random.randrange(2):
+            ask_flood(level, start, by)
+        if random.randrange(4) == 0:
+            ask_goals(level, start, [random_place(level) for _ in range(random.randrange(6))], by)
+        if path is not None and len(kept) < 8 and (len(path.links) > 1 or random.randrange(8) == 0):
+            kept.append((path, start, end, by))
+        if path is not None and path.links and random.randrange(6) == 0:
+            assert ask_check(level, path, start, end, by) == path, "a path does not lead on where it was found"
+            follow(level, path, start, end)
+    return kept
 
 
 def run(seed):
     random.seed(seed)
     kind, mesh, clear = random.choice(["rough", "smooth"]), random.choice(["strips", "contours"]), random.randrange(2)
-    words = [random.choice([8, 12, 16]), 0, seed, mesh, random.choice([0, 49, 169]), 0, kind, "areas", "none", clear]
-    text = subprocess.run([sys.executable, str(TOP / "bench" / "level_input.py"), *map(str, words)], capture_output=True, text=True, check=True).stdout
-    text = text[:text.index("end\n") + 4]
-    second, obstacles, kept, asked = Second(text), {}, [], 0
-    with navd.Level(text.encode()) as level, navd.View() as view:
-        second.publish(obstacles)
-        for _ in range(6):
-            view.look(level)
-            for path, start, goal, areas, costs in kept:
-                ask_check(second, view, path, start, goal, areas, costs)
-            kept = []
-            for _ in range(8):
-                start, goal, (areas, costs) = random_place(second), random_place(second), random_filter()
-                ask_flood(second, view, start, areas, costs)
-                path = ask_plan(second, view, start, goal, areas, costs)
-                if isinstance(path, navd.Path_):
-                    assert ask_check(second, view, path, start, goal, areas, costs) == path, "a path does not lead on where it was found"
-                    kept.append((path, start, goal, areas, costs))
-                asked += 3
-            refused(view.plan, navd.Place(0, 0), navd.Place(0, -65537))
-            refused(view.flood, navd.Place(65537, 0), 5)
-            refused(view.flood, navd.Place(0, 0), 5, NEVER, [1] * 63)
-            refused(view.flood, navd.Place(0, 0), 5, NEVER, [1] * 63 + [1001])
-            change(level, second, obstacles)
-    return asked
+    side, error = random.choice([8, 12, 16, 24, 32]), random.choice([0, 49, 169])
+    text = level_text(side, 0, seed, mesh, error, 0, kind, "areas", "none", clear)
+    with navd.Level(text.encode()) as opened, navd.View() as view:
+        level, kept = Level(text, opened, view), []
+        compared = random.randrange(6)
+        for number in range(6):
+            level.look()
+            if len(level.mesh.names) < 6 and random.randrange(8):
+                return
+            if number == compared:
+                level.compare()
+            kept = ask_all(level, kept)
+            refuse(view)
+            level.change(kept)
 
 
-total = 0
 for number in range(first_seed, first_seed + levels):
     try:
-        total += run(number)
+        run(number)
     except AssertionError as wrong:
         sys.exit(f"WRONG: level {number}: {wrong}")
-print(f"{total} questions over {levels} levels: all as the second program has them")
+for name, count in counts.items():
+    print(f"{count:8} {name}")
+print(f"over {levels} levels: all as the second program has them")

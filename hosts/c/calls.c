@@ -268,12 +268,52 @@ static void of_view(void) {
     if (!pick(8)) navd_view_close(&view);
 }
 
-/* Ways and floods through a filter, and whether the way that was told last still leads on, in what may be another mesh by now. */
+/* The way that was told last, in what may be another mesh by now. */
+static struct {
+    navd_link links[4096];
+    navd_way way;
+    navd_polygon first;
+    size_t count;
+} last_way;
+
+/* Whether the way that was told last still leads on, and that it is mended. */
+static void of_kept(uint64_t areas, const uint32_t *costs, size_t count, bool are_costs) {
+    static navd_link links[4096], mended[4096];
+    const navd_link *kept = last_way.links;
+    size_t kept_count = last_way.count, room = pick(8);
+    navd_turn turns[8];
+    navd_kept asked = {.way = last_way.way, .first = last_way.first, .areas = areas};
+    memcpy(links, kept, kept_count * sizeof *links);
+    uint32_t status = navd_view_check_path(&view, &asked, costs, count, links, kept_count, turns, room), checked = status;
+    if (are_costs) ENDS(status, "navd_view_check_path", NAVD_OK, NAVD_CUT, NAVD_NO_START); else ENDS(status, "navd_view_check_path", NAVD_OUT_OF_RANGE);
+    made_by[status]++;
+    bool leads = status == NAVD_OK || status == NAVD_CUT;
+    size_t on = leads ? asked.links : 0;
+    if (on > kept_count || (status == NAVD_OK && on != kept_count)) ENDS(1, "the links of a kept path", 0);
+    for (size_t i = 0; i < kept_count; i++)
+        if (memcmp(&links[i].left, &kept[i].left, 2 * sizeof(navd_point))) ENDS(1, "a portal of a kept path", 0);
+    if (memcmp(links + on, kept + on, (kept_count - on) * sizeof *links)) ENDS(1, "the links behind those that lead on", 0);
+
+    navd_repair repair = {.way = last_way.way, .first = last_way.first, .join = pick(40) ? pick(2) : pick(UINT32_MAX), .count = kept_count,
+                          .keep = pick(3) ? SIZE_MAX : pick(20), .most_polygons = pick(3) ? SIZE_MAX : pick(30), .areas = areas};
+    size_t links_room = pick(3) ? 4096 : kept_count + pick(4);
+    if (!pick(20)) links_room = pick(4);
+    bool is_asked = are_costs && repair.join < 2 && kept_count <= links_room;
+    memcpy(mended, kept, kept_count * sizeof *mended);
+    status = navd_view_repair_path(&view, &repair, costs, count, mended, links_room, turns, room);
+    if (!is_asked) ENDS(status, "navd_view_repair_path", NAVD_OUT_OF_RANGE);
+    else if (checked == NAVD_NO_START) ENDS(status, "navd_view_repair_path of none", NAVD_NO_START);
+    else ENDS(status, "navd_view_repair_path", NAVD_OK, NAVD_NO_ROOM, NAVD_LIMIT, NAVD_NO_GOAL, NAVD_NO_PATH);
+    made_by[status]++;
+    if (status == NAVD_OK ? repair.links > links_room || repair.turns > room || repair.kept + repair.bridge > repair.links || repair.kept > on
+                          : memcmp(mended, kept, kept_count * sizeof *mended) != 0) ENDS(1, "the links of a mended path", 0);
+    for (size_t i = 0; status == NAVD_OK && i < repair.kept; i++)
+        if (memcmp(&mended[i], &links[i], sizeof *mended)) ENDS(1, "the first links of a mended path", 0);
+    if (status == NAVD_NO_ROOM && repair.links <= links_room && repair.turns <= room) ENDS(1, "the room of a mended path", 0);
+}
+
+/* Ways and floods through a filter. */
 static void of_ways(void) {
-    static navd_link kept[4096], links[4096];
-    static navd_way kept_way;
-    static navd_polygon first_kept;
-    static size_t kept_count;
     uint32_t costs[64], shows, status;
     size_t count = pick(2) ? 0 : pick(6) ? 64 : pick(64), room = pick(8);
     bool are_costs = count == 0 || count == 64;
@@ -287,28 +327,30 @@ static void of_ways(void) {
     navd_reached reached[8];
     memset(reached, 7, sizeof reached);
     ENDS(navd_look(&view, &first, &shows), "navd_look", NAVD_OK);
-    navd_kept asked = {.way = kept_way, .first = first_kept, .areas = areas};
-    memcpy(links, kept, kept_count * sizeof *links);
-    status = navd_view_check_path(&view, &asked, costs, count, links, kept_count, turns, room);
-    if (are_costs) ENDS(status, "navd_view_check_path", NAVD_OK, NAVD_CUT, NAVD_NO_START); else ENDS(status, "navd_view_check_path", NAVD_OUT_OF_RANGE);
+    of_kept(areas, costs, count, are_costs);
+    navd_plan plan = {.way = way, .areas = areas, .most_cost = pick(3) ? UINT64_MAX : pick(3000), .most_polygons = pick(3) ? SIZE_MAX : pick(30),
+                      .partial = pick(40) ? pick(2) : pick(UINT32_MAX), .rise = pick(20) ? pick(1025) : pick(UINT32_MAX)};
+    bool is_partial = plan.partial == 1 && plan.rise <= 1024 && way.to_y <= 65535;
+    status = navd_view_plan(&view, &plan, costs, count, last_way.links, 4096, turns, room);
+    if (!is_way(&way) || !are_costs || (plan.partial && !is_partial)) ENDS(status, "navd_view_plan", NAVD_OUT_OF_RANGE);
+    else if (is_partial) ENDS(status, "navd_view_plan", NAVD_OK, NAVD_PARTIAL, NAVD_NO_START);
+    else ENDS(status, "navd_view_plan", NAVD_OK, NAVD_LIMIT, NAVD_NO_START, NAVD_NO_GOAL, NAVD_NO_PATH);
     made_by[status]++;
-    bool leads = status == NAVD_OK || status == NAVD_CUT;
-    if (leads && (asked.links > kept_count || (status == NAVD_OK && asked.links != kept_count))) ENDS(1, "the links of a kept path", 0);
-    for (size_t i = 0; i < kept_count; i++)
-        if (memcmp(&links[i].left, &kept[i].left, 2 * sizeof(navd_point))) ENDS(1, "a portal of a kept path", 0);
-    if (memcmp(links + (leads ? asked.links : 0), kept + (leads ? asked.links : 0), (kept_count - (leads ? asked.links : 0)) * sizeof *links))
-        ENDS(1, "the links behind those that lead on", 0);
-    navd_plan plan = {.way = way, .areas = areas, .most_cost = pick(3) ? UINT64_MAX : pick(3000), .most_polygons = pick(3) ? SIZE_MAX : pick(30)};
-    status = navd_view_plan(&view, &plan, costs, count, kept, 4096, turns, room);
-    if (is_way(&way) && are_costs) ENDS(status, "navd_view_plan", NAVD_OK, NAVD_LIMIT, NAVD_NO_START, NAVD_NO_GOAL, NAVD_NO_PATH);
-    else ENDS(status, "navd_view_plan", NAVD_OUT_OF_RANGE);
-    made_by[status]++;
-    if (status == NAVD_OK) kept_count = plan.links, first_kept = plan.first, kept_way = way;
-    if (kept_count > 4096) ENDS(1, "the links of a way", 0);
-    navd_flood flood = {.at = way.from, .y = way.from_y, .areas = areas, .most_cost = pick(5000)};
-    bool is_place = is_way(&(navd_way){way.from, 0, way.from, 0});
+    if (status == NAVD_OK || status == NAVD_PARTIAL) {
+        last_way.count = plan.links, last_way.first = plan.first, last_way.way = way;
+        last_way.way.to = plan.end;
+        if (status == NAVD_PARTIAL) last_way.way.to_y = plan.end_y;
+        else if (memcmp(&plan.end, &way.to, sizeof plan.end)) ENDS(1, "the end of a way", 0);
+        if (plan.links > 4096) ENDS(1, "the links of a way", 0);
+        navd_polygon last = plan.links ? last_way.links[plan.links - 1].to : plan.first;
+        if (memcmp(&last, &plan.last, sizeof last)) ENDS(1, "the last polygon of a way", 0);
+        navd_place end = {.polygon = plan.last, .at = plan.end};
+        if (status == NAVD_PARTIAL) ENDS(navd_view_height(&view, &end), "the end of a way to the nearest place", NAVD_OK);
+    }
+    navd_flood flood = {.at = way.from, .y = way.from_y, .back = pick(40) ? pick(2) : pick(UINT32_MAX), .areas = areas, .most_cost = pick(5000)};
+    bool is_asked = is_way(&(navd_way){way.from, 0, way.from, 0}) && are_costs && flood.back < 2;
     status = navd_view_flood(&view, &flood, costs, count, reached, room);
-    if (is_place && are_costs) ENDS(status, "navd_view_flood", NAVD_OK, NAVD_NO_START); else ENDS(status, "navd_view_flood", NAVD_OUT_OF_RANGE);
+    if (is_asked) ENDS(status, "navd_view_flood", NAVD_OK, NAVD_NO_START); else ENDS(status, "navd_view_flood", NAVD_OUT_OF_RANGE);
     made_by[status]++;
     for (size_t i = 1; status == NAVD_OK && i < room && i < flood.polygons; i++)
         if (reached[i].via >= i || reached[i].cost < reached[i - 1].cost || reached[i].cost > flood.most_cost) ENDS(1, "a polygon of a flood", 0);
@@ -520,10 +562,12 @@ static void of_empty(void) {
     ENDS(navd_view_march(&empty_view, &walker, 5, links, 1), "an empty handle", NAVD_EMPTY);
     navd_plan plan = {.way = way};
     navd_kept kept = {.way = way};
+    navd_repair repair = {.way = way};
     navd_flood flood = {.at = {1, 1}};
     navd_reached reached[1];
     ENDS(navd_view_plan(&empty_view, &plan, costs, 64, links, 1, turns, 1), "an empty handle", NAVD_EMPTY);
     ENDS(navd_view_check_path(&empty_view, &kept, costs, 64, links, 1, turns, 1), "an empty handle", NAVD_EMPTY);
+    ENDS(navd_view_repair_path(&empty_view, &repair, costs, 64, links, 1, turns, 1), "an empty handle", NAVD_EMPTY);
     ENDS(navd_view_flood(&empty_view, &flood, costs, 0, reached, 1), "an empty handle", NAVD_EMPTY);
     navd_nearest nearest = {.at = {1, 1}};
     navd_goal goal = {.at = {1, 1}};

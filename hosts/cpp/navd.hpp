@@ -69,8 +69,8 @@ enum class [[nodiscard]] Status : uint32_t {
     ok = NAVD_OK, no_memory = NAVD_NO_MEMORY, empty = NAVD_EMPTY, faulty = NAVD_FAULTY, out_of_range = NAVD_OUT_OF_RANGE,
     too_many = NAVD_TOO_MANY, dead = NAVD_DEAD, history_full = NAVD_HISTORY_FULL, not_yet = NAVD_NOT_YET, same = NAVD_SAME,
     no_start = NAVD_NO_START, no_goal = NAVD_NO_GOAL, no_path = NAVD_NO_PATH, wall = NAVD_WALL, no_room = NAVD_NO_ROOM,
-    stale = NAVD_STALE, foreign = NAVD_FOREIGN, busy = NAVD_BUSY, too_many_spans = NAVD_TOO_MANY_SPANS, limit = NAVD_LIMIT,
-    cut = NAVD_CUT, no_place = NAVD_NO_PLACE,
+    stale = NAVD_STALE, foreign = NAVD_FOREIGN, busy = NAVD_BUSY, too_many_spans = NAVD_TOO_MANY_SPANS,
+    partial = NAVD_PARTIAL, limit = NAVD_LIMIT, cut = NAVD_CUT, no_place = NAVD_NO_PLACE,
 };
 
 // Whether the library has the version of the header: one that is loaded while the program runs may have another.
@@ -112,6 +112,17 @@ struct Filter {
 struct Limits {
     uint64_t most_cost = UINT64_MAX;
     size_t most_polygons = SIZE_MAX;
+    uint64_t seen = 0;
+};
+
+// How a path is mended: how many of its first links are used at most, whether the way comes back to the last ones, and after how many polygons the search
+// ends. And what it left: how many of the first links were used, and how many new ones are behind these; or that each walk which mends it costs at least
+// `seen`, where the limit ended the search.
+struct Repair {
+    size_t keep = SIZE_MAX;
+    bool join = true;
+    size_t most_polygons = SIZE_MAX;
+    size_t kept = 0, bridge = 0;
     uint64_t seen = 0;
 };
 
@@ -292,6 +303,16 @@ inline Status quantize(const navd_frame &frame, const std::vector<navd_world_poi
     return ends;
 }
 
+/// The points of places in a frame, one after the other; as many as were turned are left in `points`.
+inline Status dequantize(const navd_frame &frame, const std::vector<navd_frame_place> &places, std::vector<navd_world_point> &points) {
+    static const navd_frame_place no_place = {};
+    points.resize(places.size() + 1);
+    size_t count = 0;
+    Status ends{navd_dequantize(&frame, places.empty() ? &no_place : places.data(), places.size(), points.data(), places.size(), &count)};
+    points.resize(count);
+    return ends;
+}
+
 class Job : public detail::Owner<navd_job, navd_job_close> {
 public:
     Status build() noexcept { return Status{navd_build(&handle)}; }
@@ -391,38 +412,59 @@ public:
         return Status{end};
     }
 
+    // Makes a path whole in what the view shows: way.from is where its walker is now, path.first the polygon in which it was last.
+    Status repair_path(const navd_way &way, const Filter &filter, Repair &repair, Path &path) {
+        const std::vector<navd_link> given = path.links;
+        navd_repair told{};
+        const Status status =
+            detail::both(path.links, path.turns, [&](navd_link *links, size_t &count, navd_turn *turns, size_t &others) {
+                told = {};
+                told.way = way;
+                told.first = path.first;
+                told.join = repair.join;
+                told.count = given.size();
+                told.keep = repair.keep;
+                told.most_polygons = repair.most_polygons;
+                told.areas = filter.areas;
+                std::copy(given.begin(), given.end(), links);
+                const uint32_t end = navd_view_repair_path(&handle, &told, detail::address(filter.costs.data()), filter.costs.size(), links, count,
+                                                           turns, others);
+                count = end == NAVD_NO_ROOM ? std::max(told.links, given.size()) : told.links;
+                others = told.turns;
+                return end == NAVD_NO_ROOM ? NAVD_OK : end; // nothing was laid, and one of the counts is more than its room
+            });
+        path.cost = told.cost;
+        path.first = told.first;
+        repair.kept = told.kept;
+        repair.bridge = told.bridge;
+        repair.seen = told.seen;
+        return status;
+    }
+
     // The polygons within a cost of a place, by rising costs.
     Status flood(navd_point at, uint32_t y, uint64_t most_cost, const Filter &filter, std::vector<navd_reached> &reached) {
-        navd_flood told{};
-        told.at = at;
-        told.y = y;
-        told.areas = filter.areas;
-        told.most_cost = most_cost;
-        return detail::all(reached, [&](navd_reached *to, size_t *count) {
-            const uint32_t end = navd_view_flood(&handle, &told, detail::address(filter.costs.data()), filter.costs.size(), to, *count);
-            *count = told.polygons;
-            return end;
-        });
+        return flooded(at, y, 0, most_cost, filter, reached);
+    }
+    // The same with the polygons from which a way leads to the place.
+    Status flood_back(navd_point at, uint32_t y, uint64_t most_cost, const Filter &filter, std::vector<navd_reached> &reached) {
+        return flooded(at, y, 1, most_cost, filter, reached);
     }
 
     // A cheapest way through a filter, within limits.
     Status plan(const navd_way &way, const Filter &filter, Limits &limits, Path &path) {
         navd_plan told{};
         told.way = way;
-        told.areas = filter.areas;
-        told.most_cost = limits.most_cost;
-        told.most_polygons = limits.most_polygons;
-        const Status status =
-            detail::both(path.links, path.turns, [&](navd_link *links, size_t &count, navd_turn *turns, size_t &others) {
-                const uint32_t end = navd_view_plan(&handle, &told, detail::address(filter.costs.data()), filter.costs.size(), links, count,
-                                                    turns, others);
-                count = told.links;
-                others = told.turns;
-                return end;
-            });
-        path.cost = told.cost;
-        path.first = told.first;
-        limits.seen = told.seen;
+        return planned(told, filter, limits, path);
+    }
+    // The same, and where none is found, Status::partial: the way to the nearest place, left at `end` on its polygon's least floor, by the distance in the
+    // plane and `rise` sixteenths for each unit of height. After Status::ok `end` is the goal.
+    Status plan_partial(const navd_way &way, const Filter &filter, Limits &limits, uint32_t rise, Path &path, navd_place &end) {
+        navd_plan told{};
+        told.way = way;
+        told.partial = 1;
+        told.rise = rise;
+        const Status status = planned(told, filter, limits, path);
+        end = {told.last, told.end, told.end_y};
         return status;
     }
 
@@ -455,6 +497,39 @@ public:
     Status height(navd_place &place) noexcept { return Status{navd_view_height(&handle, &place)}; }
     // Whether it is a place of what the view shows: Status::ok or Status::no_place.
     Status is_place(const navd_place &place) noexcept { return Status{navd_view_is_place(&handle, &place)}; }
+
+private:
+    Status planned(navd_plan &told, const Filter &filter, Limits &limits, Path &path) {
+        uint32_t end = NAVD_OK;
+        told.areas = filter.areas;
+        told.most_cost = limits.most_cost;
+        told.most_polygons = limits.most_polygons;
+        const Status status =
+            detail::both(path.links, path.turns, [&](navd_link *links, size_t &count, navd_turn *turns, size_t &others) {
+                end = navd_view_plan(&handle, &told, detail::address(filter.costs.data()), filter.costs.size(), links, count, turns, others);
+                count = told.links;
+                others = told.turns;
+                return end == NAVD_PARTIAL ? NAVD_OK : end;
+            });
+        path.cost = told.cost;
+        path.first = told.first;
+        limits.seen = told.seen;
+        return status == Status::ok ? Status{end} : status;
+    }
+
+    Status flooded(navd_point at, uint32_t y, uint32_t back, uint64_t most_cost, const Filter &filter, std::vector<navd_reached> &reached) {
+        navd_flood told{};
+        told.at = at;
+        told.y = y;
+        told.back = back;
+        told.areas = filter.areas;
+        told.most_cost = most_cost;
+        return detail::all(reached, [&](navd_reached *to, size_t *count) {
+            const uint32_t end = navd_view_flood(&handle, &told, detail::address(filter.costs.data()), filter.costs.size(), to, *count);
+            *count = told.polygons;
+            return end;
+        });
+    }
 };
 
 } // namespace navd

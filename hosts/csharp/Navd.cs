@@ -47,6 +47,7 @@ namespace Navd
         Foreign = 16,
         Busy = 17,
         TooManySpans = 18,
+        Partial = 19,
         Limit = 20,
         Cut = 21,
         NoPlace = 22
@@ -287,8 +288,11 @@ namespace Navd
         internal Way Way;
         internal ulong Areas, MostCost;
         internal UIntPtr MostPolygons;
+        internal uint Partial, Rise;
         internal ulong Cost, Seen;
-        internal Polygon First;
+        internal Polygon First, Last;
+        internal Point End;
+        internal uint EndY;
         internal UIntPtr Links, Turns;
     }
 
@@ -302,15 +306,27 @@ namespace Navd
     }
 
     [StructLayout(LayoutKind.Sequential)]
+    internal struct NavdRepair
+    {
+        internal Way Way;
+        internal Polygon First;
+        internal uint Join;
+        internal UIntPtr Count, Keep, MostPolygons;
+        internal ulong Areas, Cost, Seen;
+        internal UIntPtr Kept, Bridge, Links, Turns;
+    }
+
+    [StructLayout(LayoutKind.Sequential)]
     internal struct NavdFlood
     {
         internal Point At;
-        internal uint Y;
+        internal uint Y, Back;
         internal ulong Areas, MostCost;
         internal UIntPtr Polygons;
     }
 
-    /// <summary>A polygon of a flood, what a cheapest walk to it costs, and the place of the polygon before it.</summary>
+    /// <summary>A polygon of a flood, what a cheapest walk to it costs, and the place of the polygon before it; of a flood back what one from it costs, and
+    /// the polygon behind it.</summary>
     [StructLayout(LayoutKind.Sequential)]
     public struct Reached
     {
@@ -408,6 +424,9 @@ namespace Navd
         internal static extern Status navd_frame_of(ref Frame sizes, ref WorldPoint low, ref WorldPoint high, out FramedField field);
         [DllImport(Library)]
         internal static extern Status navd_quantize(ref Frame frame, WorldPoint[] points, UIntPtr howMany, [Out] FramePlace[] places, UIntPtr room,
+            out UIntPtr count);
+        [DllImport(Library)]
+        internal static extern Status navd_dequantize(ref Frame frame, FramePlace[] places, UIntPtr howMany, [Out] WorldPoint[] points, UIntPtr room,
             out UIntPtr count);
         [DllImport(Library)]
         internal static extern Status navd_open_mesh(LevelHandle level, ref Mesh mesh, float[] vertices, UIntPtr numbers, uint[] corners, UIntPtr count,
@@ -510,6 +529,9 @@ namespace Navd
         [DllImport(Library)]
         internal static extern Status navd_view_check_path(ViewHandle view, ref NavdKept kept, uint[] costs, UIntPtr costsCount,
             [In][Out] Link[] links, UIntPtr count, [Out] Turn[] turns, UIntPtr turnsRoom);
+        [DllImport(Library)]
+        internal static extern Status navd_view_repair_path(ViewHandle view, ref NavdRepair repair, uint[] costs, UIntPtr costsCount,
+            [In][Out] Link[] links, UIntPtr linksRoom, [Out] Turn[] turns, UIntPtr turnsRoom);
         [DllImport(Library)]
         internal static extern Status navd_view_flood(ViewHandle view, ref NavdFlood flood, uint[] costs, UIntPtr costsCount,
             [Out] Reached[] reached, UIntPtr room);
@@ -626,6 +648,12 @@ namespace Navd
     internal static class Given
     {
         internal static readonly UIntPtr Most = UIntPtr.Size == 8 ? (UIntPtr)ulong.MaxValue : (UIntPtr)uint.MaxValue;
+
+        /// <summary>A limit, of which the greatest number is none.</summary>
+        internal static UIntPtr Limit(uint most)
+        {
+            return most == uint.MaxValue ? Most : (UIntPtr)most;
+        }
 
         internal static UIntPtr Length(Array items)
         {
@@ -985,20 +1013,39 @@ namespace Navd
         /// Status.Limit: a way there, if there is one, costs at least `seen`.</summary>
         public Status Plan(Way way, Filter filter, ulong mostCost, uint mostPolygons, Path path, out ulong seen)
         {
+            var told = new NavdPlan { Way = way, MostCost = mostCost, MostPolygons = Given.Limit(mostPolygons) };
+            Status status = Planned(ref told, filter, path);
+            seen = told.Seen;
+            return status;
+        }
+
+        /// <summary>The same, and where none is found, Status.Partial: the way to the nearest place, left at `end` on its polygon's least floor, by the
+        /// distance in the plane and `rise` sixteenths for each unit of height. After Status.Ok `end` is the goal.</summary>
+        public Status PlanPartial(Way way, Filter filter, ulong mostCost, uint mostPolygons, uint rise, Path path, out Place end, out ulong seen)
+        {
+            var told = new NavdPlan { Way = way, MostCost = mostCost, MostPolygons = Given.Limit(mostPolygons), Partial = 1, Rise = rise };
+            Status status = Planned(ref told, filter, path);
+            end = new Place { Polygon = told.Last, At = told.End, Y = told.EndY };
+            seen = told.Seen;
+            return status;
+        }
+
+        Status Planned(ref NavdPlan told, Filter filter, Path path)
+        {
             Status status;
-            UIntPtr polygons = mostPolygons == uint.MaxValue ? Given.Most : (UIntPtr)mostPolygons;
+            bool found;
             uint[] costs = Given.Items(filter.Costs, "filter.Costs");
-            var told = new NavdPlan { Way = way, Areas = filter.Areas, MostCost = mostCost, MostPolygons = polygons };
+            told.Areas = filter.Areas;
             Room<Link> links = path.Links;
             Room<Turn> turns = path.Turns;
             do
             {
                 status = Native.navd_view_plan(view, ref told, costs, Given.Length(filter.Costs), links.Items, links.Length, turns.Items,
                     turns.Length);
-            } while (!links.Takes(status == Status.Ok, told.Links) | !turns.Takes(status == Status.Ok, told.Turns));
+                found = status == Status.Ok || status == Status.Partial;
+            } while (!links.Takes(found, told.Links) | !turns.Takes(found, told.Turns));
             path.Cost = told.Cost;
             path.First = told.First;
-            seen = told.Seen;
             return status;
         }
 
@@ -1026,12 +1073,54 @@ namespace Navd
             return status;
         }
 
+        /// <summary>Makes a path whole in what the view shows: way.From is where its walker is now, path.First the polygon in which it was last. At most
+        /// `keep` of the links as which it leads on are used, and with `join` the way comes back to the last ones; the search ends after mostPolygons. Told:
+        /// how many of the first links were used, and how many new ones are behind these. Status.Limit: each walk that mends it costs at least
+        /// `seen`.</summary>
+        public Status RepairPath(Way way, Filter filter, uint keep, bool join, uint mostPolygons, Path path, out int kept, out int bridge, out ulong seen)
+        {
+            Status status;
+            bool found;
+            uint[] costs = Given.Items(filter.Costs, "filter.Costs");
+            Room<Link> links = path.Links;
+            Room<Turn> turns = path.Turns;
+            var given = new Link[links.Count];
+            Array.Copy(links.Items, given, links.Count);
+            var told = new NavdRepair();
+            do
+            {
+                told = new NavdRepair { Way = way, First = path.First, Join = join ? 1u : 0u, Count = Given.Length(given), Keep = Given.Limit(keep),
+                    MostPolygons = Given.Limit(mostPolygons), Areas = filter.Areas };
+                Array.Copy(given, links.Items, given.Length);
+                status = Native.navd_view_repair_path(view, ref told, costs, Given.Length(filter.Costs), links.Items, links.Length, turns.Items,
+                    turns.Length);
+                found = status == Status.Ok || status == Status.NoRoom;
+            } while (!links.Takes(found, told.Links) | !turns.Takes(found, told.Turns));
+            path.Cost = told.Cost;
+            path.First = told.First;
+            kept = checked((int)told.Kept.ToUInt64());
+            bridge = checked((int)told.Bridge.ToUInt64());
+            seen = told.Seen;
+            return status;
+        }
+
         /// <summary>The polygons within a cost of a place, by rising costs.</summary>
         public Status Flood(Point at, uint y, ulong mostCost, Filter filter, Room<Reached> reached)
         {
+            return Flooded(at, y, 0, mostCost, filter, reached);
+        }
+
+        /// <summary>The same with the polygons from which a way leads to the place.</summary>
+        public Status FloodBack(Point at, uint y, ulong mostCost, Filter filter, Room<Reached> reached)
+        {
+            return Flooded(at, y, 1, mostCost, filter, reached);
+        }
+
+        Status Flooded(Point at, uint y, uint back, ulong mostCost, Filter filter, Room<Reached> reached)
+        {
             Status status;
             uint[] costs = Given.Items(filter.Costs, "filter.Costs");
-            var told = new NavdFlood { At = at, Y = y, Areas = filter.Areas, MostCost = mostCost };
+            var told = new NavdFlood { At = at, Y = y, Back = back, Areas = filter.Areas, MostCost = mostCost };
             do
             {
                 status = Native.navd_view_flood(view, ref told, costs, Given.Length(filter.Costs), reached.Items, reached.Length);

@@ -18,15 +18,14 @@ from dataclasses import dataclass
 from pathlib import Path
 
 OK, NO_MEMORY, EMPTY, FAULTY, OUT_OF_RANGE, TOO_MANY, DEAD, HISTORY_FULL, NOT_YET, SAME, NO_START, NO_GOAL, NO_PATH, WALL, NO_ROOM, \
-    STALE, FOREIGN, BUSY, TOO_MANY_SPANS = range(19)
-LIMIT, CUT, NO_PLACE = 20, 21, 22
+    STALE, FOREIGN, BUSY, TOO_MANY_SPANS, PARTIAL, LIMIT, CUT, NO_PLACE = range(23)
 
 # The version of the library that this file was written for, as major * 10000 + minor * 100 + patch.
 VERSION = 100
 
 NAMES = ("ok", "no memory", "empty handle", "faulty text", "number out of range", "too many obstacles", "no such obstacle", "history full",
          "a tile is awaited", "same as before", "no start", "no goal", "no path", "wall", "no room", "the build is wanted no more",
-         "the job is of another ground", "the handle holds a job", "too many spans")
+         "the job is of another ground", "the handle holds a job", "too many spans", "a way to the nearest place", "limit", "cut", "no place")
 
 # All areas, as a filter's.
 all_areas = 2**64 - 1
@@ -158,16 +157,23 @@ class _Shown(Structure):
 
 
 class _Plan(Structure):
-    _fields_ = [("way", _Way), ("areas", c_uint64), ("most_cost", c_uint64), ("most_polygons", c_size_t), ("cost", c_uint64), ("seen", c_uint64),
-                ("first", _Polygon), ("links", c_size_t), ("turns", c_size_t)]
+    _fields_ = [("way", _Way), ("areas", c_uint64), ("most_cost", c_uint64), ("most_polygons", c_size_t), ("partial", c_uint32), ("rise", c_uint32),
+                ("cost", c_uint64), ("seen", c_uint64), ("first", _Polygon), ("last", _Polygon), ("end", _Point), ("end_y", c_uint32),
+                ("links", c_size_t), ("turns", c_size_t)]
 
 
 class _Kept(Structure):
     _fields_ = [("way", _Way), ("first", _Polygon), ("areas", c_uint64), ("cost", c_uint64), ("links", c_size_t), ("turns", c_size_t)]
 
 
+class _Repair(Structure):
+    _fields_ = [("way", _Way), ("first", _Polygon), ("join", c_uint32), ("count", c_size_t), ("keep", c_size_t), ("most_polygons", c_size_t),
+                ("areas", c_uint64), ("cost", c_uint64), ("seen", c_uint64), ("kept", c_size_t), ("bridge", c_size_t), ("links", c_size_t),
+                ("turns", c_size_t)]
+
+
 class _Flood(Structure):
-    _fields_ = [("at", _Point), ("y", c_uint32), ("areas", c_uint64), ("most_cost", c_uint64), ("polygons", c_size_t)]
+    _fields_ = [("at", _Point), ("y", c_uint32), ("back", c_uint32), ("areas", c_uint64), ("most_cost", c_uint64), ("polygons", c_size_t)]
 
 
 class _Reached(Structure):
@@ -372,6 +378,30 @@ class Limited:
 
 
 @dataclass(frozen=True)
+class MeshPlace:
+    """A place on the mesh: a polygon, and a point that it holds, with the floor there."""
+    polygon: Polygon
+    at: Place
+
+
+@dataclass(frozen=True)
+class Partial:
+    """A way to the nearest place: no place is nearer to which a way leads that costs, with the straight rest, less than `seen`; a way to the goal, if there
+    is one, costs at least that."""
+    path: Path_
+    end: MeshPlace
+    seen: int
+
+
+@dataclass(frozen=True)
+class Repaired:
+    """A path that was mended: `kept` of the links that it had, then `bridge` new ones, and the last ones that it had."""
+    path: Path_
+    kept: int
+    bridge: int
+
+
+@dataclass(frozen=True)
 class Cut:
     """A kept path that leads on in part: by these links, from its first polygon; where they are all, the goal has left the last polygon."""
     cost: int
@@ -381,7 +411,8 @@ class Cut:
 
 @dataclass(frozen=True)
 class Flooded:
-    """A polygon of a flood, what a cheapest walk to it costs, and the place in the list of the polygon before it."""
+    """A polygon of a flood, what a cheapest walk to it costs, and the place in the list of the polygon before it; of a flood back what one from it costs,
+    and the polygon behind it."""
     polygon: Polygon
     cost: int
     via: int
@@ -395,13 +426,6 @@ class NearestGoal:
     first: Polygon
     last: Polygon
     links: list[Link]
-
-
-@dataclass(frozen=True)
-class MeshPlace:
-    """A place on the mesh: a polygon, and a point that it holds, with the floor there."""
-    polygon: Polygon
-    at: Place
 
 
 @dataclass(frozen=True)
@@ -435,6 +459,7 @@ def _library():
         "navd_open_triangles": [handle, ctypes.c_char_p, c_size_t, POINTER(_Fault)],
         "navd_frame_of": [POINTER(_Frame), POINTER(_WorldPoint), POINTER(_WorldPoint), POINTER(_FramedField)],
         "navd_quantize": [POINTER(_Frame), POINTER(_WorldPoint), c_size_t, POINTER(_FramePlace), c_size_t, count],
+        "navd_dequantize": [POINTER(_Frame), POINTER(_FramePlace), c_size_t, POINTER(_WorldPoint), c_size_t, count],
         "navd_open_mesh": [handle, POINTER(_Mesh), POINTER(c_float), c_size_t, number, c_size_t, POINTER(c_uint8), c_size_t,
                            POINTER(_MeshFault)],
         "navd_find_hop": hop, "navd_view_find_hop": hop, "navd_send": send, "navd_view_send": send, "navd_march": march, "navd_view_march": march,
@@ -469,6 +494,7 @@ def _library():
         "navd_view_find_path": [handle, POINTER(_Way), POINTER(_Link), c_size_t, POINTER(_Turn), c_size_t, POINTER(_Path)],
         "navd_view_cast_ray": [handle, POINTER(_Way), POINTER(_Ray)],
         "navd_view_check_path": [handle, POINTER(_Kept), number, c_size_t, POINTER(_Link), c_size_t, POINTER(_Turn), c_size_t],
+        "navd_view_repair_path": [handle, POINTER(_Repair), number, c_size_t, POINTER(_Link), c_size_t, POINTER(_Turn), c_size_t],
         "navd_view_flood": [handle, POINTER(_Flood), number, c_size_t, POINTER(_Reached), c_size_t],
         "navd_view_plan": [handle, POINTER(_Plan), number, c_size_t, POINTER(_Link), c_size_t, POINTER(_Turn), c_size_t],
         "navd_view_nearest_goal": [handle, POINTER(_Nearest), number, c_size_t, POINTER(_Goal), c_size_t, POINTER(_Link), c_size_t],
@@ -792,25 +818,27 @@ class View(_Asked):
         if status:
             raise NavdError(status)
 
-    def plan(self, start, goal, areas=all_areas, costs=(), most_cost=2**64 - 1, most_polygons=c_size_t(-1).value):
+    def plan(self, start, goal, areas=all_areas, costs=(), most_cost=2**64 - 1, most_polygons=c_size_t(-1).value, partial=None):
         """A cheapest Path_ through a filter: bit a of `areas` says whether area a may be entered, and `costs` are 64 numbers by area, or none for those
-        of the view. Or a Limited, where one of the limits ended the search, or a NoPath."""
+        of the view. Or a Limited, where one of the limits ended the search, or a NoPath; or with `partial`, the sixteenths that a unit of height counts,
+        a Partial in place of what is none."""
         told = _array(c_uint32, costs)
         while True:
-            plan = _Plan(_way(start, goal), areas, most_cost, most_polygons)
+            plan = _Plan(_way(start, goal), areas, most_cost, most_polygons, partial is not None, partial or 0)
             status = self._calls.navd_view_plan(byref(self._handle), byref(plan), told, len(costs), self._links, len(self._links), self._turns,
                                                 len(self._turns))
             if status in (NO_START, NO_GOAL, NO_PATH):
                 return NoPath(status)
             if status == LIMIT:
                 return Limited(plan.seen)
-            if status:
+            if status not in (OK, PARTIAL):
                 raise NavdError(status)
             if plan.links <= len(self._links) and plan.turns <= len(self._turns):
                 break
             self._links, self._turns = (_Link * max(1, plan.links))(), (_Turn * max(1, plan.turns))()
-        return Path_(plan.cost, _polygon(plan.first), [_link(it) for it in self._links[:plan.links]],
+        path = Path_(plan.cost, _polygon(plan.first), [_link(it) for it in self._links[:plan.links]],
                      [_turn(it) for it in self._turns[:plan.turns]])
+        return Partial(path, MeshPlace(_polygon(plan.last), Place(plan.end.x, plan.end.z, plan.end_y)), plan.seen) if status == PARTIAL else path
 
     def check(self, path, start, goal, areas=all_areas, costs=()):
         """The Path_ as which a path leads on, from where its walker is now, a Cut, or a NoPath. `path.first` is the polygon in which the walker was last, and
@@ -832,11 +860,32 @@ class View(_Asked):
             return Cut(kept.cost, _polygon(kept.first), found)
         return Path_(kept.cost, _polygon(kept.first), found, [_turn(it) for it in self._turns[:kept.turns]])
 
-    def flood(self, start, most_cost, areas=all_areas, costs=()):
-        """The Floodeds within a cost of a place, by rising costs, or a NoPath."""
+    def repair(self, path, start, goal, areas=all_areas, costs=(), keep=c_size_t(-1).value, join=True, most_polygons=c_size_t(-1).value):
+        """A path made whole, from where its walker is now: a Repaired, a Limited, where the search ended after `most_polygons`, or a NoPath. At most `keep`
+        of the links as which it leads on are used, and with `join` the way comes back to the last ones, where they still lead to the goal."""
+        told = _array(c_uint32, costs)
+        links_room, turns_room = max(64, len(path.links)), len(self._turns)
+        while True:
+            links, turns = _array(_Link, [_link_of(it) for it in path.links] + [_Link()] * (links_room - len(path.links))), (_Turn * turns_room)()
+            repair = _Repair(_way(start, goal), _polygon_of(path.first), join, len(path.links), keep, most_polygons, areas)
+            status = self._calls.navd_view_repair_path(byref(self._handle), byref(repair), told, len(costs), links, links_room, turns, turns_room)
+            if status in (NO_START, NO_GOAL, NO_PATH):
+                return NoPath(status)
+            if status == LIMIT:
+                return Limited(repair.seen)
+            if status == OK:
+                found = Path_(repair.cost, _polygon(repair.first), [_link(it) for it in links[:repair.links]],
+                              [_turn(it) for it in turns[:repair.turns]])
+                return Repaired(found, repair.kept, repair.bridge)
+            if status != NO_ROOM:
+                raise NavdError(status)
+            links_room, turns_room = max(links_room, repair.links), max(turns_room, repair.turns)
+
+    def flood(self, start, most_cost, areas=all_areas, costs=(), back=False):
+        """The Floodeds within a cost of a place, or with `back` those from which a way leads to it, by rising costs, or a NoPath."""
         room, told = (_Reached * 64)(), _array(c_uint32, costs)
         while True:
-            flood = _Flood(_Point(start.x, start.z), start.y, areas, most_cost)
+            flood = _Flood(_Point(start.x, start.z), start.y, back, areas, most_cost)
             status = self._calls.navd_view_flood(byref(self._handle), byref(flood), told, len(costs), room, len(room))
             if status == NO_START:
                 return NoPath(status)

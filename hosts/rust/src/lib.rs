@@ -17,6 +17,7 @@ mod heap;
 mod jobs;
 mod looks;
 mod places;
+mod repairs;
 mod sys;
 mod walks;
 mod ways;
@@ -27,6 +28,7 @@ pub use goals::{Followed, Follower, Found, Nearest};
 pub use jobs::Job;
 pub use looks::{Obstacle, Shape};
 pub use places::{MeshPlace, Near};
+pub use repairs::{Repair, Repaired};
 pub use sys::{
     Block, Corner, Counts, Cylinder, Disc, Face, Floor, Jump, Link, Point, Polygon, Prism, Reached, Shown, Turn,
 };

@@ -24,6 +24,7 @@ pub const STALE: u32 = 15;
 pub const FOREIGN: u32 = 16;
 pub const BUSY: u32 = 17;
 pub const TOO_MANY_SPANS: u32 = 18;
+pub const PARTIAL: u32 = 19;
 pub const LIMIT: u32 = 20;
 pub const CUT: u32 = 21;
 pub const NO_PLACE: u32 = 22;
@@ -84,7 +85,7 @@ pub struct Disc {
 }
 
 #[repr(C)]
-#[derive(Clone, Copy)]
+#[derive(Clone, Copy, Default)]
 pub struct Way {
     pub from: Point,
     pub from_y: u32,
@@ -299,15 +300,20 @@ pub struct Shown {
 }
 
 #[repr(C)]
-#[derive(Clone, Copy)]
+#[derive(Clone, Copy, Default)]
 pub struct Plan {
     pub way: Way,
     pub areas: u64,
     pub most_cost: u64,
     pub most_polygons: usize,
+    pub partial: u32,
+    pub rise: u32,
     pub cost: u64,
     pub seen: u64,
     pub first: Polygon,
+    pub last: Polygon,
+    pub end: Point,
+    pub end_y: u32,
     pub links: usize,
     pub turns: usize,
 }
@@ -324,16 +330,36 @@ pub struct Kept {
 }
 
 #[repr(C)]
+#[derive(Clone, Copy, Default)]
+pub struct Repair {
+    pub way: Way,
+    pub first: Polygon,
+    pub join: u32,
+    pub count: usize,
+    pub keep: usize,
+    pub most_polygons: usize,
+    pub areas: u64,
+    pub cost: u64,
+    pub seen: u64,
+    pub kept: usize,
+    pub bridge: usize,
+    pub links: usize,
+    pub turns: usize,
+}
+
+#[repr(C)]
 #[derive(Clone, Copy)]
 pub struct Flood {
     pub at: Point,
     pub y: u32,
+    pub back: u32,
     pub areas: u64,
     pub most_cost: u64,
     pub polygons: usize,
 }
 
-/// A polygon of a flood, what a cheapest walk to it costs, and the place in the list of the polygon before it on such a walk.
+/// A polygon of a flood, what a cheapest walk to it costs, and the place in the list of the polygon before it on such a walk; of a flood back what
+/// one from it costs, and the polygon behind it.
 #[repr(C)]
 #[derive(Clone, Copy, Default, Debug, PartialEq, Eq)]
 pub struct Reached {
@@ -452,6 +478,14 @@ extern "C" {
         room: usize,
         count: *mut usize,
     ) -> u32;
+    pub fn navd_dequantize(
+        frame: *const Frame,
+        places: *const FramePlace,
+        how_many: usize,
+        points: *mut WorldPoint,
+        room: usize,
+        count: *mut usize,
+    ) -> u32;
     pub fn navd_open_mesh(
         level: *mut Handle,
         mesh: *const Mesh,
@@ -524,6 +558,16 @@ extern "C" {
         costs_count: usize,
         links: *mut Link,
         count: usize,
+        turns: *mut Turn,
+        turns_room: usize,
+    ) -> u32;
+    pub fn navd_view_repair_path(
+        view: *mut Handle,
+        repair: *mut Repair,
+        costs: *const u32,
+        costs_count: usize,
+        links: *mut Link,
+        links_room: usize,
         turns: *mut Turn,
         turns_room: usize,
     ) -> u32;

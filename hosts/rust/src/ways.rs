@@ -1,6 +1,6 @@
 //! Further questions about ways, asked of a view through a filter.
 
-use crate::{done, no_way, sys, Error, Link, NoWay, Path, Place, Polygon, Reached, Turn, View};
+use crate::{done, no_way, sys, Error, Link, MeshPlace, NoWay, Path, Place, Reached, Turn, View};
 
 /// The areas that may be entered, bit a for area a, and costs by area for one question, or none for those of the view.
 #[derive(Clone, Copy, Debug, PartialEq, Eq)]
@@ -34,6 +34,9 @@ impl Default for Limits {
 #[derive(Clone, Debug, PartialEq, Eq)]
 pub enum Planned {
     Whole(Path),
+    /// A way to the nearest place, `end`, on its polygon's least floor: no place is nearer to which a way leads that costs, with the straight rest, less
+    /// than `seen`, and a way to the goal, if there is one, costs at least that.
+    Nearest { path: Path, end: MeshPlace, seen: u64 },
     /// A limit ended the search: a way there, if there is one, costs at least this.
     Limit(u64),
 }
@@ -50,12 +53,22 @@ pub enum Checked {
 impl View {
     /// A cheapest way through a filter with a taut line, or why there is none.
     pub fn plan(&mut self, from: Place, to: Place, filter: Filter, limits: Limits) -> Result<Result<Planned, NoWay>, Error> {
+        self.asked(from, to, filter, limits, None)
+    }
+
+    /// The same, and where none is found, the way to the nearest place by the distance in the plane and `rise` sixteenths of a cell, 0 to 1024, for each
+    /// unit of height.
+    pub fn plan_partial(&mut self, from: Place, to: Place, filter: Filter, limits: Limits, rise: u32) -> Result<Result<Planned, NoWay>, Error> {
+        self.asked(from, to, filter, limits, Some(rise))
+    }
+
+    fn asked(&mut self, from: Place, to: Place, filter: Filter, limits: Limits, rise: Option<u32>) -> Result<Result<Planned, NoWay>, Error> {
         let way = sys::Way { from: from.at, from_y: from.y, to: to.at, to_y: to.y };
+        let (partial, rise) = (rise.is_some() as u32, rise.unwrap_or(0));
         let (mut links, mut turns) = (vec![Link::default(); 64], vec![Turn::default(); 64]);
         loop {
-            let (most_cost, most_polygons) = (limits.cost, limits.polygons);
-            let first = Polygon::default();
-            let mut plan = sys::Plan { way, areas: filter.areas, most_cost, most_polygons, cost: 0, seen: 0, first, links: 0, turns: 0 };
+            let (areas, most_cost, most_polygons) = (filter.areas, limits.cost, limits.polygons);
+            let mut plan = sys::Plan { way, areas, most_cost, most_polygons, partial, rise, ..Default::default() };
             // SAFETY: here and below, the handle is this view's, and the arrays are those of slices and vectors.
             let status = unsafe {
                 let (costs, links_room, turns_room) = (filter.costs, links.len(), turns.len());
@@ -69,12 +82,16 @@ impl View {
             if status == sys::LIMIT {
                 return Ok(Ok(Planned::Limit(plan.seen)));
             }
-            done((status, 0))?;
+            if status != sys::PARTIAL {
+                done((status, 0))?;
+            }
             let fits = plan.links <= links.len() && plan.turns <= turns.len();
             links.resize(plan.links, Link::default());
             turns.resize(plan.turns, Turn::default());
             if fits {
-                return Ok(Ok(Planned::Whole(Path { cost: plan.cost, first: plan.first, links, turns })));
+                let path = Path { cost: plan.cost, first: plan.first, links, turns };
+                let end = MeshPlace { polygon: plan.last, at: Place { at: plan.end, y: plan.end_y } };
+                return Ok(Ok(if status == sys::PARTIAL { Planned::Nearest { path, end, seen: plan.seen } } else { Planned::Whole(path) }));
             }
         }
     }
@@ -112,9 +129,18 @@ impl View {
 
     /// The polygons within a cost of a place, by rising costs, or that no polygon holds the place.
     pub fn flood(&mut self, from: Place, most_cost: u64, filter: Filter) -> Result<Result<Vec<Reached>, NoWay>, Error> {
+        self.flooded(from, 0, most_cost, filter)
+    }
+
+    /// The same with the polygons from which a way leads to the place.
+    pub fn flood_back(&mut self, to: Place, most_cost: u64, filter: Filter) -> Result<Result<Vec<Reached>, NoWay>, Error> {
+        self.flooded(to, 1, most_cost, filter)
+    }
+
+    fn flooded(&mut self, place: Place, back: u32, most_cost: u64, filter: Filter) -> Result<Result<Vec<Reached>, NoWay>, Error> {
         let mut reached = vec![Reached::default(); 64];
         loop {
-            let mut flood = sys::Flood { at: from.at, y: from.y, areas: filter.areas, most_cost, polygons: 0 };
+            let mut flood = sys::Flood { at: place.at, y: place.y, back, areas: filter.areas, most_cost, polygons: 0 };
             let status = unsafe {
                 let (costs, room) = (filter.costs, reached.len());
                 sys::navd_view_flood(&mut self.handle, &mut flood, costs.as_ptr(), costs.len(), reached.as_mut_ptr(), room)

@@ -1,6 +1,6 @@
 //! A level that is opened, changed, drawn and asked, with a crate across its room.
 use navd::{
-    place, version, Block, Checked, Disc, Error, Filter, Jump, Level, Limits, Near, NoWay, Planned, Point, Prism,
+    place, version, Block, Checked, Disc, Error, Filter, Jump, Level, Limits, Near, NoWay, Planned, Point, Prism, Repair, Repaired,
     Ray, Shape, VERSION, View,
 };
 use std::thread;
@@ -86,8 +86,18 @@ fn a_kept_path_is_checked() {
     assert!(matches!(view.plan(from, to, dear, Limits::default()), Ok(Ok(Planned::Whole(it))) if it.cost == 7 * path.cost));
     assert!(matches!(view.plan(from, to, dear, Limits { cost: path.cost, ..Limits::default() }), Ok(Ok(Planned::Limit(_)))));
     assert_eq!(view.check(&path, from, to, Filter::default()).unwrap().unwrap(), Checked::Whole(path.clone()));
+    let near = Limits { polygons: 1, ..Limits::default() };
+    let Planned::Nearest { path: part, end, seen } = view.plan_partial(from, to, Filter::default(), near, 16).unwrap().unwrap() else { panic!("whole") };
+    assert!(part.links.is_empty() && end.polygon == path.first && seen <= path.cost);
+    let whole = view.plan_partial(from, to, Filter::default(), Limits::default(), 16).unwrap().unwrap();
+    assert!(matches!(whole, Planned::Whole(it) if it.cost == path.cost));
+    let anew = Repair { keep: 0, join: false, ..Repair::default() };
+    let Repaired::Whole { path: again, kept: 0, bridge } = view.repair(&path, from, to, Filter::default(), anew).unwrap().unwrap() else { panic!("no") };
+    assert!(again.cost == path.cost && again.links.len() == bridge);
     let reached = view.flood(from, path.cost, Filter::default()).unwrap().unwrap();
     assert!(reached[0].polygon == path.first && reached.iter().any(|it| it.polygon == path.links.last().unwrap().to && it.cost == path.cost));
+    let behind = view.flood_back(to, path.cost, Filter::default()).unwrap().unwrap();
+    assert!(behind.iter().any(|it| it.polygon == path.first && it.cost == path.cost));
     level.add_block(&CRATE, 0).unwrap();
     level.settle().unwrap();
     view.look(&mut level).unwrap();

@@ -1,0 +1,52 @@
+"""What the checks of the library share: the library that one is about, by the host in Python, and how many random levels it looks at, from which seed on,
+which are the words behind its name; and the random levels."""
+import contextlib
+import io
+import os
+import random
+import sys
+from pathlib import Path
+from unittest import mock
+
+TOP = Path(__file__).resolve().parent.parent
+code = {}
+
+
+def host_and_levels(usage, most):
+    """The host's module over the library named first, and the counts behind it; where they are left out, `most` levels from seed 1."""
+    if len(sys.argv) < 2:
+        sys.exit(usage)
+    os.environ["NAVD_LIBRARY"] = str(Path(sys.argv[1]).resolve())
+    sys.path.insert(0, str(TOP / "hosts" / "python"))
+    import navd
+    levels, first_seed = [int(word) for word in sys.argv[2:4]] + [most, 1][len(sys.argv[2:4]):]
+    return navd, levels, first_seed
+
+
+def refuser(navd):
+    """Tests that a call with numbers out of their limits is told so."""
+    def refused(call, *words):
+        try:
+            call(*words)
+            assert False, f"{words} are answered"
+        except navd.NavdError as refusal:
+            assert refusal.status == navd.OUT_OF_RANGE, refusal.status
+    return refused
+
+
+def script(path, *words):
+    """Runs a script with words behind its name: its names, and what it writes."""
+    if path not in code:
+        code[path] = compile(path.read_text(), path.name, "exec")
+    names, out = {"__name__": path.stem, "__file__": str(path)}, io.StringIO()
+    with mock.patch.object(sys, "argv", [path.name, *map(str, words)]), contextlib.redirect_stdout(out):
+        exec(code[path], names)
+    return names, out.getvalue()
+
+
+def level_text(*words):
+    """The field text that bench/level_input.py writes for these words."""
+    state = random.getstate()
+    text = script(TOP / "bench" / "level_input.py", *words)[1]
+    random.setstate(state)
+    return text[:text.index("end\n") + 4]
