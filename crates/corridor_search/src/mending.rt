@@ -11,7 +11,7 @@ use std::alloc::{AllocError, Global};
 
 /// How many heights over one landmark each try may write at most: lowering and raising are tried in turn, so that the one of the two that
 /// writes few is taken.
-const TRIES: [usize; 4] = [64, 256, 1024, 4096];
+const TRIES: [usize; 5] = [64, 512, 4096, 32768, 262144];
 
 /// How often all lists of the queue are looked at, at most: more often than it takes.
 const ROUNDS: u32 = u32::MAX;

@@ -23,3 +23,14 @@ module _ (mesh : Mesh) (costs : List ℕ) (links : List Link) (sound : IsSound m
       → cost_of (with_costs costs mesh) (take i links) + weight_of (with_costs costs mesh) (get_or links i d) < 2 ^ 64
   fits-more i d there few =
       omega (arith, sum_by_more_le (weight_of (with_costs costs mesh)) links i d there, sum_by-le (weight_of (with_costs costs mesh)) 2897000 links each, few)
+
+  -- and one more
+  pub fits-next : (next : Link) → IsLinkOf mesh next → length links < 4294967295
+      → cost_of (with_costs costs mesh) links + weight_of (with_costs costs mesh) next < 2 ^ 64
+  fits-next next is few =
+      omega (
+        arith,
+        sum_by-le (weight_of (with_costs costs mesh)) 2897000 links each,
+        weight-most (with_costs costs mesh) next (sound-with mesh costs sound) (setting-with mesh.setting costs setting are) (leads mesh next sound is),
+        few,
+      )

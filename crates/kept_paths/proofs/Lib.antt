@@ -1,4 +1,5 @@
 mod LeadLaws
+mod AreaLaws
 mod NearestLaws
 mod PathParts
 mod CostSums

@@ -7,7 +7,6 @@ ghost use Rattle.kept_paths.specs.KeptPaths.{CanCheck, IsBeginning, IsChecked};
 
 use crate::beginnings::{beginning, holds_at};
 use crate::leads::lead_from;
-use crate::weights::cost;
 use mesh_types::{Asked, Corner, Link, Mesh, PolyRef};
 use nav_base::Point;
 use nav_lists::Items;
@@ -74,8 +73,8 @@ fn check_from(
     requires first { IsBeginning mesh.now path.now first }
     ensures { IfOk result (λ answer. IsChecked path.now mesh.now answer) }
 {
-    let lead = lead_from(alloc, mesh, path.filter.areas, first, path.links.as_slice())?;
-    let cost = cost(mesh, &path.filter, lead.links.as_slice());
+    let lead = lead_from(alloc, mesh, &path.filter, first, path.links.as_slice())?;
+    let cost = lead.cost;
     let whole = lead.links.len() == path.links.len();
     if whole && holds_at(mesh, path.goal, path.goal_y, lead.last) {
         let turns = turns(alloc, path.from, lead.links.as_slice(), path.goal)?;

@@ -1,49 +1,83 @@
 //! The links as which kept links lead on. The links that leave a polygon.
 
-ghost use Rattle.std.specs.Prelude.{◌≡◌, ◌↔◌, IfOk, IfSome, IfNone, IsTrue, Contains, Some, length};
+ghost use Rattle.std.specs.Prelude.{◌≡◌, ◌↔◌, ◌<◌, IfOk, IfSome, IfNone, IsTrue, Contains, Some, length, true};
+ghost use Rattle.nav_ground.specs.Limits.{IsSetting};
 ghost use Rattle.mesh_types.specs.declared.links.Link as references;
-ghost use Rattle.mesh_types.specs.Corridors.{IsLinkOf};
+ghost use Rattle.mesh_types.specs.Corridors.{IsLinkOf, cost_of};
 ghost use Rattle.mesh_types.specs.Soundness.{IsSound};
 ghost use Rattle.corridor_search.specs.MeshGraphs.{inner_links, outer_links};
-ghost use Rattle.path_queries.specs.Filters.{Enters};
+ghost use Rattle.path_queries.specs.Filters.{AreCosts, Enters, IsFilter, priced, with_costs};
 ghost use Rattle.kept_paths.specs.KeptPaths.{IsThrough, LeadOn, LeadsOn};
 
-use mesh_types::{Link, Mesh, PolyRef, Portal, poly};
+use crate::weights::step_over;
+use corridor_search::extent_at;
+use mesh_types::{Link, Mesh, PolyRef, Portal};
 use nav_base::Point;
+use nav_ground::AREAS;
 use nav_lists::Items;
-use path_queries::is_open;
+use path_queries::{Filter, is_open};
 use std::alloc::{AllocError, Global};
 
-/// How far kept links lead on: the links as which they do, and the polygon to which those lead.
+/// How far kept links lead on: the links as which they do, the polygon to which those lead, and what they cost.
 #[derive(Drop)]
 pub(crate) struct Lead {
     pub(crate) links: Items<Link>,
     pub(crate) last: PolyRef,
+    pub(crate) cost: u64,
 }
 
-/// How far kept links lead on from a polygon.
+/// How far kept links lead on from a polygon through a filter.
 pub(crate) fn lead_from(
     alloc: Global,
     mesh: &Mesh,
-    areas: u64,
+    filter: &Filter,
     first: PolyRef,
     kept: &[Link],
 ) -> Result<Lead, AllocError>
     requires sound { IsSound mesh.now }
-    ensures { IfOk result (λ lead. LeadOn mesh.now areas first kept.now lead.links lead.last) }
+    requires setting { IsSetting mesh.now.setting }
+    requires filter { IsFilter filter.now }
+    requires few { length kept.now < 4294967295 }
+    ensures leads { IfOk result (λ lead. LeadOn mesh.now filter.now.areas first kept.now lead.links lead.last) }
+    ensures cost { IfOk result (λ lead. lead.cost ≡ cost_of (priced mesh.now filter.now) lead.links) }
+{
+    let costs = filter.costs.unwrap_or(mesh.setting.costs);
+    lead_at(alloc, mesh, filter.areas, &costs, first, kept)
+}
+
+/// The same through open areas, at given costs of areas. The extent of the polygon that was entered last is kept for the next step.
+fn lead_at(
+    alloc: Global,
+    mesh: &Mesh,
+    areas: u64,
+    costs: &[u32; AREAS],
+    first: PolyRef,
+    kept: &[Link],
+) -> Result<Lead, AllocError>
+    requires sound { IsSound mesh.now }
+    requires setting { IsSetting mesh.now.setting }
+    requires costs { AreCosts costs.now }
+    requires few { length kept.now < 4294967295 }
+    ensures leads { IfOk result (λ lead. LeadOn mesh.now areas first kept.now lead.links lead.last) }
+    ensures cost { IfOk result (λ lead. lead.cost ≡ cost_of (with_costs costs.now mesh.now) lead.links) }
 {
     let mut links = Vec::with_capacity(alloc, kept.len())?;
     let mut last = first;
+    let mut left = extent_at(mesh, first);
+    let mut cost = 0;
     for link in kept {
         let Some(next) = leading_on(mesh, areas, last, link) else {
             let links = Items::from_vec(links);
-            return Ok(Lead { links, last });
+            return Ok(Lead { links, last, cost });
         };
+        let step = step_over(mesh, costs, left, &next);
         links.push(next)?;
+        cost += step.cost;
         last = next.to;
+        left = step.entered;
     }
     let links = Items::from_vec(links);
-    Ok(Lead { links, last })
+    Ok(Lead { links, last, cost })
 }
 
 /// The link that leads on from a polygon through the portal of a kept link: the kept one where that does; none exactly where none does.
@@ -74,7 +108,19 @@ fn is_leading(mesh: &Mesh, areas: u64, at: PolyRef, kept: &Link) -> bool
 fn has_link(links: &[Link], link: &Link) -> bool
     ensures { IsTrue result ↔ Contains links.now link.now }
 {
-    links.contains(link)
+    for other in links {
+        if is_link(other, link) {
+            return true;
+        }
+    }
+    false
+}
+
+/// Whether two links are the same. Of those that leave one polygon the edge tells most apart.
+fn is_link(a: &Link, b: &Link) -> bool
+    ensures { IsTrue result ↔ (a.now ≡ b.now) }
+{
+    a.edge == b.edge && a.to == b.to && is_same(a.portal, b.portal) && a.from == b.from
 }
 
 /// The first of some links that leads through a portal into a polygon of an open area.
@@ -97,10 +143,15 @@ pub(crate) fn enters(mesh: &Mesh, areas: u64, link: &Link) -> bool
     requires sound { IsSound mesh.now }
     ensures { IsTrue result ↔ Enters mesh.now areas link.now }
 {
-    match poly(mesh, link.to) {
-        Some(polygon) => is_open(areas, polygon.area),
-        None => false,
-    }
+    is_open_area(areas, extent_at(mesh, link.to).area)
+}
+
+/// Whether an area is one that can be walked on and is open. Where no polygon is, the extent has the area 0.
+fn is_open_area(areas: u64, area: u32) -> bool
+    requires { area < 64 }
+    ensures { IsTrue result ↔ ((0 < area) × (Rattle.path_queries.specs.Filters.is_open areas area ≡ true)) }
+{
+    area != 0 && is_open(areas, area)
 }
 
 /// Whether a link is one of the mesh that leaves a polygon.

@@ -69,7 +69,7 @@ pub fn repair_path(alloc: Global, mesh: &Mesh, repair: &Repair) -> Result<Repair
     let Some(first) = beginning(mesh, path) else {
         return Ok(RepairAnswer::NoStart);
     };
-    let lead = lead_from(alloc, mesh, path.filter.areas, first, path.links.as_slice())?;
+    let lead = lead_from(alloc, mesh, &path.filter, first, path.links.as_slice())?;
     repair_behind(alloc, mesh, repair, first, lead.links.as_slice())
 }
 

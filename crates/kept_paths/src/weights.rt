@@ -4,10 +4,11 @@ ghost use Rattle.std.specs.Prelude.{◌≡◌, ◌<◌, All, length};
 ghost use Rattle.nav_ground.specs.Limits.{IsSetting};
 ghost use Rattle.mesh_types.specs.Corridors.{IsLinkOf, cost_of, weight_of};
 ghost use Rattle.mesh_types.specs.Soundness.{IsSound};
+ghost use Rattle.corridor_search.specs.Estimates.{extent_at};
 ghost use Rattle.path_queries.specs.Filters.{AreCosts, IsFilter, priced, with_costs};
 
 use corridor_search::{extent_at, middle};
-use mesh_types::{Link, Mesh};
+use mesh_types::{Extent, Link, Mesh};
 use nav_ground::AREAS;
 use path_queries::{Filter, step_cost};
 
@@ -40,8 +41,7 @@ fn cost_at(mesh: &Mesh, costs: &[u32; AREAS], links: &[Link]) -> u64
     cost
 }
 
-/// What a link of a mesh costs: the distance of the middles of its two polygons, in sixteenths of a cell and rounded up, at least 1, times
-/// the cost of the area that it enters.
+/// What a link of a mesh costs.
 fn weight(mesh: &Mesh, costs: &[u32; AREAS], link: &Link) -> u64
     requires sound { IsSound mesh.now }
     requires setting { IsSetting mesh.now.setting }
@@ -49,7 +49,29 @@ fn weight(mesh: &Mesh, costs: &[u32; AREAS], link: &Link) -> u64
     requires link { IsLinkOf mesh.now link.now }
     ensures value { result ≡ weight_of (with_costs costs.now mesh.now) link.now }
 {
-    let from = middle(extent_at(mesh, link.from));
+    let left = extent_at(mesh, link.from);
+    step_over(mesh, costs, left, link).cost
+}
+
+/// A step over a link: what it costs, and the extent of the polygon that it enters.
+#[derive(Clone, Copy)]
+pub(crate) struct Stepped {
+    pub(crate) cost: u64,
+    pub(crate) entered: Extent,
+}
+
+/// A step over a link of a mesh out of a polygon, of which the extent is known: it costs the distance of the middles of the two polygons, in
+/// sixteenths of a cell and rounded up, at least 1, times the cost of the area that is entered.
+pub(crate) fn step_over(mesh: &Mesh, costs: &[u32; AREAS], left: Extent, link: &Link) -> Stepped
+    requires sound { IsSound mesh.now }
+    requires setting { IsSetting mesh.now.setting }
+    requires costs { AreCosts costs.now }
+    requires link { IsLinkOf mesh.now link.now }
+    requires left { left ≡ extent_at mesh.now link.now.from }
+    ensures cost { result.cost ≡ weight_of (with_costs costs.now mesh.now) link.now }
+    ensures entered { result.entered ≡ extent_at mesh.now link.now.to }
+{
     let entered = extent_at(mesh, link.to);
-    step_cost(costs, from, entered)
+    let cost = step_cost(costs, middle(left), entered);
+    Stepped { cost, entered }
 }

@@ -22,19 +22,20 @@ use Rattle.mesh_types.specs.Places.{Stands, column_gap, storey_at}
 use Rattle.mesh_types.specs.Storeys.{HasFloor, IsFloorRow}
 use Rattle.mesh_types.specs.WholeMesh.{poly_at}
 use Rattle.mesh_locate.specs.Nearest.{IsInBox}
-use Rattle.mesh_locate.proofs.Reached.{held_in_box}
+use Rattle.mesh_locate.proofs.Reached.{IsCellBox, box_there, held_in_box}
 use Rattle.mesh_place.specs.declared.near.Near.{Near}
 use Rattle.mesh_place.specs.declared.cells.NearCell.{NearCell}
 use Rattle.mesh_place.specs.declared.lines.LineSpan.{LineSpan}
 use Rattle.mesh_place.specs.declared.storey_scan.Around.{Around}
 use Rattle.mesh_place.specs.declared.storey_scan.NearSearch.{NearSearch}
 use Rattle.mesh_place.specs.declared.storey_scan.PolygonPart.{PolygonPart}
+use Rattle.mesh_place.specs.Columns.{IsAmong}
 use Rattle.mesh_place.specs.Lines.{IsInSpan, IsItOrFarther, IsNearestOf, IsPartOf, point_on}
 use Rattle.mesh_place.specs.Nearest.{IsInReach, is_open}
 use Rattle.mesh_place.specs.Searches.{IsHeightNear, IsCellOf, IsOverCell, IsLinePoint, IsHeldOnLine, IsOnLine, IsInLines, IsInRow, IsInRows, IsRowOf, IsSearch, IsWithin}
-use Rattle.mesh_place.specs.Searches.{IsPart, box_gap, columns_of, place_over, rows_of}
+use Rattle.mesh_place.specs.Searches.{IsPart, box_gap, cells_touched, columns_of, place_over, rows_of}
 use Rattle.mesh_place.proofs.SearchLaws.{IsLed}
-use Rattle.mesh_place.proofs.Squares.{over_column, among_columns, box_least, farther_across, farther_along, farther_both, gap_of_point}
+use Rattle.mesh_place.proofs.Squares.{over_column, among_columns, among_touched, box_least, farther_across, farther_along, farther_both, gap_of_point}
 
 -- ---- a cell
 
@@ -240,23 +241,29 @@ cell_of mesh asked part row z x y is of rules inside left right value =
       along = inside;
     }
 
-pub before_columns : (search : NearSearch) (row : FloorRow) (at : PolyRef) (z first : ℕ) → IsSearch search
-    → first ≤ max row.x0 search.around.columns.first → (other : MeshPlace) → IsWithin search other.point → IsInRow row at z first other → ⊥
-before_columns search row at z first rules begins other within one =
+pub before_columns : (mesh : Mesh) (search : NearSearch) (part : PolygonPart) (row : FloorRow) (z first : ℕ) → IsSearch search
+    → IsPart mesh search.asked part → first ≤ max row.x0 (max search.around.columns.first part.touched.columns.first) → (other : MeshPlace)
+    → Stands mesh other → IsWithin search other.point → IsInRow row part.at z first other → ⊥
+before_columns mesh search part row z first rules is begins other stands within one =
     let columns = ap (λ (a : Around). a.columns.first) rules.around in
     let among = (among_columns one.x z search.asked.point other.point search.reach one.over within).0 in
+    let own = (is.touched one.x z other.point one.over (holds_it mesh search.asked part other is stands one.polygon)).0 in
     let right = one.right in
     let before = one.before in
     let least = among.first in
-    omega (arith, columns, begins, right, before, least)
+    let least' = own.first in
+    omega (arith, columns, begins, right, before, least, least')
 
-pub after_columns : (search : NearSearch) (row : FloorRow) (at : PolyRef) (z end x : ℕ) → IsSearch search
-    → end ≡ min (row.x0 + length row.floors) (search.around.columns.last + 1) → end ≤ x → (other : MeshPlace) → IsWithin search other.point
-    → IsInRow row at z (row.x0 + length row.floors) other → IsInRow row at z x other
-after_columns search row at z end x rules ends past other within one =
+pub after_columns : (mesh : Mesh) (search : NearSearch) (part : PolygonPart) (row : FloorRow) (z end x : ℕ) → IsSearch search
+    → IsPart mesh search.asked part
+    → end ≡ min (row.x0 + length row.floors) (min search.around.columns.last part.touched.columns.last + 1) → end ≤ x → (other : MeshPlace)
+    → Stands mesh other → IsWithin search other.point → IsInRow row part.at z (row.x0 + length row.floors) other → IsInRow row part.at z x other
+after_columns mesh search part row z end x rules is ends past other stands within one =
     let columns = ap (λ (a : Around). a.columns.last) rules.around in
     let among = (among_columns one.x z search.asked.point other.point search.reach one.over within).0 in
+    let own = (is.touched one.x z other.point one.over (holds_it mesh search.asked part other is stands one.polygon)).0 in
     let most = among.last in
+    let most' = own.last in
     let before = one.before in
     record {
       polygon = one.polygon;
@@ -264,7 +271,7 @@ after_columns search row at z end x rules ends past other within one =
       right = one.right;
       is_cell = one.is_cell;
       over = one.over;
-      before = omega (arith, columns, ends, past, most, before);
+      before = omega (arith, columns, ends, past, most, most', before);
     }
 
 pub next_column : (row : FloorRow) (part : PolygonPart) (cell : NearCell) (other : MeshPlace) → cell.y ≡ get_or row.floors (cell.x - row.x0) 0
@@ -285,27 +292,33 @@ next_column row part cell other value one =
 
 -- ---- a storey
 
-pub before_rows : (search : NearSearch) (storey : Storey) (at : PolyRef) (first : ℕ) → IsSearch search
-    → first ≤ max storey.z0 search.around.rows.first → (other : MeshPlace) → IsWithin search other.point → IsInRows storey at first other → ⊥
-before_rows search storey at first rules begins other within one =
+pub before_rows : (mesh : Mesh) (search : NearSearch) (part : PolygonPart) (storey : Storey) (first : ℕ) → IsSearch search
+    → IsPart mesh search.asked part → first ≤ max storey.z0 (max search.around.rows.first part.touched.rows.first) → (other : MeshPlace)
+    → Stands mesh other → IsWithin search other.point → IsInRows storey part.at first other → ⊥
+before_rows mesh search part storey first rules is begins other stands within one =
     let rows = ap (λ (a : Around). a.rows.first) rules.around in
     let among = (among_columns one.x one.z search.asked.point other.point search.reach one.over within).1 in
+    let own = (is.touched one.x one.z other.point one.over (holds_it mesh search.asked part other is stands one.polygon)).1 in
     let has = one.has in
     let above = has.above in
     let before = one.before in
     let least = among.first in
-    omega (arith, rows, begins, above, before, least)
+    let least' = own.first in
+    omega (arith, rows, begins, above, before, least, least')
 
-pub after_rows : (mesh : Mesh) (search : NearSearch) (storey : Storey) (at : PolyRef) (end z : ℕ) → IsSearch search
-    → storey_at mesh at ≡ Some storey → end ≡ min (storey.z0 + length storey.rows) (search.around.rows.last + 1) → end ≤ z → (other : MeshPlace)
-    → Stands mesh other → IsWithin search other.point → other.polygon ≡ at → IsInRows storey at z other
-after_rows mesh search storey at end z rules home ends past other stands within one =
+pub after_rows : (mesh : Mesh) (search : NearSearch) (part : PolygonPart) (storey : Storey) (end z : ℕ) → IsSearch search
+    → IsPart mesh search.asked part → storey_at mesh part.at ≡ Some storey
+    → end ≡ min (storey.z0 + length storey.rows) (min search.around.rows.last part.touched.rows.last + 1) → end ≤ z → (other : MeshPlace)
+    → Stands mesh other → IsWithin search other.point → other.polygon ≡ part.at → IsInRows storey part.at z other
+after_rows mesh search part storey end z rules is home ends past other stands within one =
     let rows = ap (λ (a : Around). a.rows.last) rules.around in
     let same : stands.storey ≡ storey = same_Some stands.storey storey (sym stands.home ∙ ap (storey_at mesh) one ∙ home) in
     let floor = stands.floor in
     let has : HasFloor storey floor.x floor.z other.y = subst (λ (s : Storey). HasFloor s floor.x floor.z other.y) same floor.has in
     let among = (among_columns floor.x floor.z search.asked.point other.point search.reach floor.gap within).1 in
+    let own = (is.touched floor.x floor.z other.point floor.gap (holds_it mesh search.asked part other is stands one)).1 in
     let most = among.last in
+    let most' = own.last in
     let above = has.above in
     let within = slice_get_within storey.rows (floor.z - storey.z0) has.row has.is_row in
     record {
@@ -314,7 +327,7 @@ after_rows mesh search storey at end z rules home ends past other stands within 
       z = floor.z;
       has = has;
       over = floor.gap;
-      before = omega (arith, rows, ends, past, most, above, within);
+      before = omega (arith, rows, ends, past, most, most', above, within);
     }
 
 pub next_row : (storey : Storey) (row : FloorRow) (at : PolyRef) (z : ℕ) (other : MeshPlace) → slice_get storey.rows (z - storey.z0) ≡ Some row
@@ -379,12 +392,25 @@ not_open mesh asked polygons at e listed are closed other near one =
 pub no_storey : (mesh : Mesh) (at : PolyRef) → storey_at mesh at ≡ None → (other : MeshPlace) → Stands mesh other → other.polygon ≡ at → ⊥
 no_storey mesh at none other stands one = none-some stands.storey (sym none ∙ ap (storey_at mesh) (sym one) ∙ stands.home)
 
-pub part_of : (mesh : Mesh) (asked : Near) (polygons : List Polygon) (at : PolyRef) (e : Extent) (polygon : Polygon)
+pub part_of : (mesh : Mesh) (asked : Near) (polygons : List Polygon) (at : PolyRef) (e : Extent) (polygon : Polygon) (around : Around)
     → poly_at mesh at ≡ slice_get polygons at.index → ((d : Polygon) → e ≡ extent_of (get_or polygons at.index d)) → All IsPolygon polygons
     → at.index < length polygons → ((d : Polygon) → polygon ≡ get_or polygons at.index d) → is_open asked.areas e.area ≡ true
-    → IsPart mesh asked (record { at = at; polygon = polygon })
-part_of mesh asked polygons at e polygon listed are rules there is opened = record {
+    → around ≡ cells_touched e → IsPart mesh asked (record { at = at; polygon = polygon; touched = around })
+part_of mesh asked polygons at e polygon around listed are rules there is opened touches = record {
   there = listed ∙ slice_get_read polygons (length polygons) at.index polygon refl there (is polygon);
-  rules = subst IsPolygon (sym (is polygon)) (rules at.index polygon there);
-  area = subst (λ (n : ℕ). is_open asked.areas n ≡ true) (ap (λ (x : Extent). x.area) (are polygon ∙ ap extent_of (sym (is polygon)))) opened;
+  rules = own;
+  area = subst (λ (n : ℕ). is_open asked.areas n ≡ true) (ap (λ (x : Extent). x.area) same) opened;
+  touched =
+      λ x z q over holds.
+      subst (λ (a : Around). IsAmong a.columns x × IsAmong a.rows z) (sym touches)
+      (among_touched e x z q box.low box.high over (subst (λ (d : Extent). IsInBox d q) (sym same) (held_in_box polygon q own holds)));
 }
+  where
+    own : IsPolygon polygon
+    own = subst IsPolygon (sym (is polygon)) (rules at.index polygon there)
+
+    same : e ≡ extent_of polygon
+    same = are polygon ∙ ap extent_of (sym (is polygon))
+
+    box : IsCellBox e
+    box = box_there polygons at.index e are rules there

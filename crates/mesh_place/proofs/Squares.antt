@@ -6,14 +6,13 @@ use Rattle.std.proofs.lemmas.Bool.{cases_lt}
 use Rattle.std.proofs.lemmas.Int.{ints, clamps}
 use Rattle.std.proofs.lemmas.Nat.{mul-lt, mul-le}
 use Rattle.nav_base.specs.declared.point.Point.{Point}
-use Rattle.nav_base.specs.Point.{from_to, dot_of}
+use Rattle.nav_base.specs.Point.{IsCellCorner, from_to, dot_of}
 use Rattle.nav_base.specs.Deviation.{square_of}
 use Rattle.nav_base.proofs.LengthLaws.{square-absolute}
 use Rattle.mesh_types.specs.declared.extent.Extent.{Extent}
 use Rattle.mesh_types.specs.Places.{column_gap, outside}
 use Rattle.mesh_locate.specs.Nearest.{IsInBox}
-use Rattle.mesh_place.specs.declared.columns.ColumnRange.{ColumnRange}
-use Rattle.mesh_place.specs.Columns.{column_out, columns_around, over_by}
+use Rattle.mesh_place.specs.Columns.{IsAmong, column_out, columns_around, columns_touched, over_by}
 use Rattle.mesh_place.specs.Searches.{box_gap}
 use Rattle.mesh_place.proofs.Spans.{size_right, size_left, out_right, out_left}
 
@@ -137,10 +136,6 @@ clamp_least (pos a) m least = omega (arith, ints, least, size_right a)
 clamp_least (negsuc k) m least = absurd (omega (arith, ints, least))
 
 -- the columns within a reach are those of each point that is within
-pub record IsAmong (range : ColumnRange) (x : ℕ) : Type 0 where
-  pub first : range.first ≤ x
-  pub last : x ≤ range.last
-
 reached : (x m : ℕ) (p : ℤ) (reach : ℕ) → unsigned_abs (pos m -ℤ p) ≤ reach → 16 * x ≤ m → m ≤ 16 * x + 16 → IsAmong (columns_around p reach) x
 reached x m p reach most left right =
     let bounds = size_bounds (pos m -ℤ p) reach most in
@@ -155,6 +150,26 @@ among_columns x z p q reach none flat =
     let near = within p q reach flat in (
       reached x over.across.m p.x reach (subst (λ (n : ℤ). unsigned_abs (n -ℤ p.x) ≤ reach) over.across.is near.across) over.across.left over.across.right,
       reached z over.along.m p.z reach (subst (λ (n : ℤ). unsigned_abs (n -ℤ p.z) ≤ reach) over.along.is near.along) over.along.left over.along.right,
+    )
+
+-- a column on which a point of a box lies is one that the box touches
+touched : (x : ℕ) (low high q : ℤ) → IsOn x q → pos 0 ≤ℤ low → pos 0 ≤ℤ high → (pos 16 *ℤ low) ≤ℤ q → q ≤ℤ (pos 16 *ℤ high)
+    → IsAmong (columns_touched low high) x
+touched x (pos a) (pos b) q on least least' begins ends =
+    let left : 16 * a ≤ on.m = omega (arith, ints, on.is, begins) in
+    let right : on.m ≤ 16 * b = omega (arith, ints, on.is, ends) in
+    let from = on.left in
+    let to = on.right in
+    record { first = omega (arith, left, to); last = omega (arith, right, from) }
+touched x (negsuc k) high q on least least' begins ends = absurd (omega (arith, ints, least))
+touched x (pos a) (negsuc k) q on least least' begins ends = absurd (omega (arith, ints, least'))
+
+pub among_touched : (box : Extent) (x z : ℕ) (q : Point) → IsCellCorner box.low → IsCellCorner box.high → 0 ≡ column_gap x z q → IsInBox box q
+    → IsAmong (columns_touched box.low.x box.high.x) x × IsAmong (columns_touched box.low.z box.high.z) z
+among_touched box x z q low high none is =
+    let over = over_column x z q none in (
+      touched x box.low.x box.high.x q.x over.across low.left high.left is.low.across is.high.across,
+      touched z box.low.z box.high.z q.z over.along low.bottom high.bottom is.low.along is.high.along,
     )
 
 -- a point of a box is no nearer than the box

@@ -1,5 +1,5 @@
 -- Columns: how far a coordinate lies outside a column, and the columns under it.
-use Rattle.std.specs.Prelude.{ℕ, ◌+◌, ◌*◌, ◌-◌, ◌/◌, ℤ, pos, ◌+ℤ◌, ◌-ℤ◌, unsigned_abs}
+use Rattle.std.specs.Prelude.{◌≤◌, ℕ, ◌+◌, ◌*◌, ◌-◌, ◌/◌, ℤ, pos, ◌+ℤ◌, ◌-ℤ◌, unsigned_abs}
 use Rattle.std.specs.Int.{int_max}
 use Rattle.mesh_types.specs.Places.{outside}
 use Rattle.mesh_place.specs.declared.columns.ColumnRange.{ColumnRange}
@@ -19,3 +19,12 @@ span_under n = let m = unsigned_abs (int_max n (pos 0)) in record { first = (m -
 -- the columns within a reach of a coordinate
 abbrev pub columns_around : ℤ → ℕ → ColumnRange
 columns_around n reach = record { first = (span_under (n -ℤ pos reach)).first; last = (span_under (n +ℤ pos reach)).last }
+
+-- the columns whose closed squares reach from a line between columns, none of them before the field, to another one
+abbrev pub columns_touched : ℤ → ℤ → ColumnRange
+columns_touched low high = record { first = unsigned_abs low - 1; last = unsigned_abs high }
+
+-- a column is one of some
+pub record IsAmong (range : ColumnRange) (x : ℕ) : Type 0 where
+  pub first : range.first ≤ x
+  pub last : x ≤ range.last

@@ -22,7 +22,7 @@ use Rattle.mesh_place.specs.declared.near.Near.{Near}
 use Rattle.mesh_place.specs.declared.storey_scan.Around.{Around}
 use Rattle.mesh_place.specs.declared.storey_scan.NearSearch.{NearSearch}
 use Rattle.mesh_place.specs.declared.storey_scan.PolygonPart.{PolygonPart}
-use Rattle.mesh_place.specs.Columns.{columns_around}
+use Rattle.mesh_place.specs.Columns.{IsAmong, columns_around, columns_touched}
 use Rattle.mesh_place.specs.Nearest.{CanAskNear, IsInReach, is_open, measure, place_cmp}
 
 -- what was found stands and is in reach
@@ -89,11 +89,17 @@ IsWithin search point = square_of (from_to search.asked.point point) ≤ search.
 abbrev pub IsFoundNear : Mesh → NearSearch → Option MeshPlace → Option MeshPlace → (MeshPlace → Type 0) → Type 0
 IsFoundNear mesh search old new among = IsFoundAmong mesh search.asked old new (λ place. among place × IsWithin search place.point)
 
--- a polygon of an open area
+-- the columns and rows that a box of whole cells touches
+abbrev pub cells_touched : Extent → Around
+cells_touched box = record { columns = columns_touched box.low.x box.high.x; rows = columns_touched box.low.z box.high.z }
+
+-- a polygon of an open area, with columns and rows over which all points lie that it holds
 pub record IsPart (mesh : Mesh) (asked : Near) (part : PolygonPart) : Type 0 where
   pub there : poly_at mesh part.at ≡ Some part.polygon
   pub rules : IsPolygon part.polygon
   pub area : IsTrue (is_open asked.areas part.polygon.area)
+  pub touched : (x z : ℕ) (q : Point) → 0 ≡ column_gap x z q → Holds part.polygon q
+      → IsAmong part.touched.columns x × IsAmong part.touched.rows z
 
 -- a row of the storey of a polygon
 pub record IsRowOf (mesh : Mesh) (at : PolyRef) (row : FloorRow) (z : ℕ) : Type 0 where

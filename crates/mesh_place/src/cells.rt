@@ -8,10 +8,10 @@ ghost use Rattle.mesh_types.specs.Soundness.{IsSound};
 ghost use Rattle.mesh_place.specs.Nearest.{CanAskNear};
 ghost use Rattle.mesh_place.specs.Lines.{IsNearestOf, IsSpan};
 ghost use Rattle.mesh_place.specs.Searches.{IsFound, IsFoundNear, IsHeightNear, IsPart, IsCellOf, IsSearch, IsWithin};
-ghost use Rattle.mesh_place.specs.Searches.{IsOverCell, IsOnLine, IsHeldOnLine, columns_of, rows_of};
+ghost use Rattle.mesh_place.specs.Searches.{IsNotBefore, IsOverCell, IsOnLine, IsHeldOnLine, columns_of, rows_of};
 
 use crate::lines::{LineSpan, held_part, nearest_across, nearest_along, point_on};
-use crate::near::{Near, comes_before, square_distance};
+use crate::near::{Near, comes_before, is_beyond, square_distance};
 use crate::storey_scan::{NearSearch, PolygonPart};
 use mesh_types::{Mesh, MeshPlace, holds};
 use nav_base::Point;
@@ -24,8 +24,42 @@ pub struct NearCell {
     pub y: u32,
 }
 
+/// What was found, or a nearer place over a cell. Most cells are passed over by what was found before their row, whose measure is less than
+/// that of any place over them.
+pub(crate) fn in_near_cell(
+    mesh: &Mesh,
+    part: &PolygonPart,
+    cell: NearCell,
+    search: &NearSearch,
+    earlier: Option<MeshPlace>,
+    best: Option<MeshPlace>,
+) -> Option<MeshPlace>
+    requires sound { IsSound mesh.now }
+    requires part { IsPart mesh.now search.now.asked part.now }
+    requires cell { IsCellOf mesh.now part.now cell }
+    requires search { IsSearch search.now }
+    requires earlier { IsFound mesh.now search.now.asked earlier }
+    requires best { IsFound mesh.now search.now.asked best }
+    requires kept { (other : MeshPlace) → IsNotBefore mesh.now.setting.agent.climb search.now.asked other earlier
+        → IsNotBefore mesh.now.setting.agent.climb search.now.asked other best }
+    ensures { IsFoundNear mesh.now search.now best result (IsOverCell part.now cell) }
+{
+    if !is_height_near(&search.asked, cell.y) {
+        return best;
+    }
+    let place = MeshPlace {
+        polygon: part.at,
+        point: nearest_over(cell, search.asked.point),
+        y: cell.y,
+    };
+    if is_beyond(mesh.setting.agent.climb, &search.asked, place, earlier) {
+        return best;
+    }
+    in_cell(mesh, part, cell, search, best)
+}
+
 /// What was found, or a nearer place over a cell.
-pub(crate) fn in_cell(
+fn in_cell(
     mesh: &Mesh,
     part: &PolygonPart,
     cell: NearCell,

@@ -3,7 +3,7 @@
 ghost use Rattle.std.specs.Prelude.{◌≡◌, ◌<◌, ◌≤◌, ◌/◌, ◌-◌};
 ghost use Rattle.nav_base.specs.Point.{HasCoordinates, IsCoordinate};
 ghost use Rattle.mesh_types.specs.Places.{column_gap};
-ghost use Rattle.mesh_place.specs.Columns.{column_out, columns_around, span_under};
+ghost use Rattle.mesh_place.specs.Columns.{column_out, columns_around, columns_touched, span_under};
 
 use nav_base::Point;
 
@@ -80,5 +80,15 @@ pub(crate) fn rows_around(p: Point, reach: u32) -> ColumnRange
     ColumnRange {
         first: low.saturating_sub(1) / 16,
         last: high / 16,
+    }
+}
+
+/// The columns whose closed squares reach from a line between columns to another one.
+pub(crate) fn columns_touched(low: i32, high: i32) -> ColumnRange
+    ensures { result ≡ columns_touched low high }
+{
+    ColumnRange {
+        first: low.unsigned_abs().saturating_sub(1),
+        last: high.unsigned_abs(),
     }
 }

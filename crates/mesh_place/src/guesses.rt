@@ -1,28 +1,30 @@
 //! Guesses at where the nearest place is, of which nothing is promised: a good one leaves little to be looked at after it.
 
-ghost use Rattle.std.specs.Prelude.{All};
+ghost use Rattle.std.specs.Prelude.{All, ◌<◌, length};
 ghost use Rattle.nav_base.specs.Point.{HasCoordinates, IsCellCorner};
 ghost use Rattle.nav_ground.specs.Limits.{IsSetting};
 ghost use Rattle.mesh_types.specs.FitTiles.{IsPolygon};
+ghost use Rattle.mesh_place.specs.Nearest.{CanAskNear};
 
 use crate::boxes::box_gap;
-use crate::near::square_distance;
+use crate::near::{Near, is_open, square_distance};
 use mesh_types::{Polygon, Polygons, edge_ends};
 use nav_base::{Point, ceil_sqrt, orient};
 use nav_ground::{Setting, TileNo};
 
-/// The place of a polygon of a tile whose box is nearest to a point; 0 where there is none.
-pub(crate) fn likely_polygon(polygons: &Polygons, p: Point) -> u32
+/// The place of the polygon of a tile that is likely to have the nearest place, by how far it is and by its range of floors; that of none
+/// where none has a place in reach by these.
+pub(crate) fn likely_polygon(polygons: &Polygons, climb: u32, asked: &Near) -> u32
     requires polygons { All IsPolygon polygons.now }
-    requires point { HasCoordinates p }
+    requires asked { CanAskNear asked.now }
 {
-    let mut likely = 0_u32;
+    let mut likely = u32::MAX;
     let mut least = u64::MAX;
     let mut place = 0_u32;
     for i in 0..polygons.len() {
-        let gap = box_gap(polygons.extent(i), p);
-        if gap < least {
-            least = gap;
+        let measure = likely_measure(polygons, i, climb, asked, least);
+        if measure < least {
+            least = measure;
             likely = place;
         }
         place = place.wrapping_add(1);
@@ -30,22 +32,64 @@ pub(crate) fn likely_polygon(polygons: &Polygons, p: Point) -> u32
     likely
 }
 
+/// The measure that the nearest place of a polygon is likely to have, if that is less than another; that other else.
+fn likely_measure(polygons: &Polygons, place: usize, climb: u32, asked: &Near, least: u64) -> u64
+    requires polygons { All IsPolygon polygons.now }
+    requires there { place < length polygons.now }
+    requires asked { CanAskNear asked.now }
+{
+    let extent = polygons.extent(place);
+    let gap = box_gap(extent, asked.point);
+    if gap >= least || !is_open(asked.areas, extent.area) {
+        return least;
+    }
+    let polygon = polygons.at(place);
+    let Some(off) = floors_off(&polygon, asked) else {
+        return least;
+    };
+    let over = u64::from(asked.weight).wrapping_mul(u64::from(off.saturating_sub(climb)));
+    let square = over.wrapping_mul(over);
+    if gap.wrapping_add(square) >= least {
+        return least;
+    }
+    let flat = square_outside(&polygon, asked.point).unwrap_or(0);
+    least.min(flat.wrapping_add(square))
+}
+
+/// How far the range of a polygon's floors is from the height asked for; none where it is out of reach.
+fn floors_off(polygon: &Polygon, asked: &Near) -> Option<u32> {
+    let below = asked.y.saturating_sub(polygon.high);
+    let above = polygon.low.saturating_sub(asked.y);
+    if below > asked.down || above > asked.up {
+        return None;
+    }
+    Some(below.max(above))
+}
+
 /// How far a polygon is from a point, in sixteenths, rounded up; 0 where it holds the point.
 pub(crate) fn likely_reach(polygon: &Polygon, p: Point) -> u32
     requires corners { All IsCellCorner polygon.now.corners }
     requires point { HasCoordinates p }
 {
-    let mut least = u64::MAX;
+    match square_outside(polygon, p) {
+        Some(square) if square <= 68719476736 => ceil_sqrt(square).wrapping_add(1),
+        _ => 0,
+    }
+}
+
+/// The square of how far a polygon is from a point, in sixteenths, about; none where it holds the point.
+fn square_outside(polygon: &Polygon, p: Point) -> Option<u64>
+    requires corners { All IsCellCorner polygon.now.corners }
+    requires point { HasCoordinates p }
+{
+    let mut least = None;
     for edge in 0..polygon.corners.as_slice().len() {
         let (begin, end) = edge_ends(polygon, edge);
         if orient(begin, end, p) < 0 {
-            least = least.min(square_to_edge(begin, end, p));
+            least = Some(square_to_edge(begin, end, p).min(least.unwrap_or(u64::MAX)));
         }
     }
-    if least > 68719476736 {
-        return 0;
-    }
-    ceil_sqrt(least).wrapping_add(1)
+    least
 }
 
 /// The square of how far an edge is from a point, in sixteenths.

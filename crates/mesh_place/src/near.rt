@@ -1,6 +1,6 @@
 //! The question for the nearest place, and what it is answered. The order of places.
 
-ghost use Rattle.std.specs.Prelude.{◌≡◌, IfSome, ◌≤◌, ◌<◌, ◌-◌, ◌*◌};
+ghost use Rattle.std.specs.Prelude.{◌≡◌, false, IsTrue, IfSome, ◌≤◌, ◌<◌, ◌-◌, ◌*◌};
 ghost use Rattle.std.specs.Int.RustNames.{unsigned_abs};
 ghost use Rattle.std.specs.Ordering.{ordering_then, nat_cmp};
 ghost use Rattle.nav_base.specs.Deviation.{square_of};
@@ -63,6 +63,20 @@ pub(crate) fn comes_before(
     match best {
         None => true,
         Some(best) => place_order(climb, asked, place, best).is_lt(),
+    }
+}
+
+/// Whether a place has a greater measure than what was found.
+#[tactic(auto, using(crate::proofs::Earlier::more_measured))]
+pub(crate) fn is_beyond(climb: u32, asked: &Near, place: MeshPlace, best: Option<MeshPlace>) -> bool
+    requires asked { CanAskNear asked.now }
+    requires first { IsMeasurable asked.now place }
+    requires second { IfSome best (IsMeasurable asked.now) }
+    ensures { IsTrue result → comes_before climb asked.now place best ≡ false }
+{
+    match best {
+        None => false,
+        Some(best) => measure(climb, asked, best) < measure(climb, asked, place),
     }
 }
 

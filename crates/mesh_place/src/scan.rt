@@ -13,7 +13,7 @@ ghost use Rattle.mesh_place.specs.Searches.{IsFound, IsFoundAmong, IsMeasurable,
 use crate::boxes::box_gap;
 use crate::guesses::{likely_polygon, likely_reach};
 use crate::near::{Near, is_open, measure};
-use crate::storey_scan::{PolygonPart, in_storey, search_within};
+use crate::storey_scan::{PolygonPart, cells_touched, in_storey, search_within};
 use mesh_types::{Extent, Mesh, MeshPlace, PolyRef, Polygons, Storey, storey_of};
 use nav_base::ceil_sqrt;
 use nav_ground::TileNo;
@@ -57,7 +57,7 @@ pub(crate) fn likely_first(
     ensures { IsFoundAmong mesh.now asked.now best result (λ place. ⊥) }
 {
     let polygons = &mesh.tiles.at(tile as usize).get().polys;
-    let index = likely_polygon(polygons, asked.point);
+    let index = likely_polygon(polygons, mesh.setting.agent.climb, asked);
     if index as usize >= polygons.len() {
         return best;
     }
@@ -94,6 +94,7 @@ fn in_polygon(
     let part = PolygonPart {
         at,
         polygon: polygons.at(place),
+        touched: cells_touched(extent),
     };
     in_part(mesh, &part, storey, asked, best)
 }

@@ -5,12 +5,12 @@ ghost use Rattle.mesh_types.specs.Places.{storey_at};
 ghost use Rattle.mesh_types.specs.Soundness.{IsSound};
 ghost use Rattle.mesh_types.specs.Storeys.{IsFloorRow, IsStorey};
 ghost use Rattle.mesh_place.specs.Nearest.{CanAskNear};
-ghost use Rattle.mesh_place.specs.Searches.{IsFound, IsFoundNear, IsSearch, IsPart, IsRowOf, IsInRow, around_of};
+ghost use Rattle.mesh_place.specs.Searches.{IsFound, IsFoundNear, IsSearch, IsPart, IsRowOf, IsInRow, around_of, cells_touched};
 
-use crate::cells::{NearCell, in_cell};
-use crate::columns::{ColumnRange, columns_around, rows_around};
+use crate::cells::{NearCell, in_near_cell};
+use crate::columns::{ColumnRange, columns_around, columns_touched, rows_around};
 use crate::near::Near;
-use mesh_types::{FloorRow, Mesh, MeshPlace, PolyRef, Polygon, Storey};
+use mesh_types::{Extent, FloorRow, Mesh, MeshPlace, PolyRef, Polygon, Storey};
 
 /// What is sought within a reach, in sixteenths of a cell, that is no greater than the one asked for.
 #[derive(Clone, Copy)]
@@ -20,18 +20,19 @@ pub struct NearSearch {
     pub around: Around,
 }
 
-/// The columns and the rows within reach.
+/// The columns and the rows within reach, or those that a box touches.
 #[derive(Clone, Copy)]
 pub struct Around {
     pub columns: ColumnRange,
     pub rows: ColumnRange,
 }
 
-/// A polygon, by its reference and as it is.
+/// A polygon, by its reference and as it is, with the columns and the rows that its box touches: no other cell has a point that it holds.
 #[derive(Clone, Copy)]
 pub struct PolygonPart {
     pub at: PolyRef,
     pub polygon: Polygon,
+    pub touched: Around,
 }
 
 /// The search for what is asked within a reach.
@@ -61,6 +62,16 @@ fn places_around(asked: &Near, reach: u32) -> Around
     }
 }
 
+/// The columns and the rows that a box of whole cells touches.
+pub(crate) fn cells_touched(extent: Extent) -> Around
+    ensures { result ≡ cells_touched extent }
+{
+    Around {
+        columns: columns_touched(extent.low.x, extent.high.x),
+        rows: columns_touched(extent.low.z, extent.high.z),
+    }
+}
+
 /// What was found, or a nearer place of a polygon, over a cell of its storey.
 pub(crate) fn in_storey(
     mesh: &Mesh,
@@ -77,8 +88,10 @@ pub(crate) fn in_storey(
     requires best { IsFound mesh.now search.now.asked best }
     ensures { IsFoundNear mesh.now search.now best result (λ place. place.polygon ≡ part.now.at) }
 {
-    let end = (storey.z0 + storey.rows.len() as u32).min(search.around.rows.last + 1);
-    let first = storey.z0.max(search.around.rows.first).min(end);
+    let last = search.around.rows.last.min(part.touched.rows.last);
+    let end = (storey.z0 + storey.rows.len() as u32).min(last + 1);
+    let least = search.around.rows.first.max(part.touched.rows.first);
+    let first = storey.z0.max(least).min(end);
     let mut nearest = best;
     for z in first..end {
         nearest = in_row(mesh, part, row_at(storey, z), z, search, nearest);
@@ -104,12 +117,14 @@ fn in_row(
     requires best { IsFound mesh.now search.now.asked best }
     ensures { IsFoundNear mesh.now search.now best result (IsInRow row.now part.now.at z (row.now.x0 + length row.now.floors)) }
 {
-    let end = (row.x0 + row.floors.len() as u32).min(search.around.columns.last + 1);
-    let first = row.x0.max(search.around.columns.first).min(end);
+    let last = search.around.columns.last.min(part.touched.columns.last);
+    let end = (row.x0 + row.floors.len() as u32).min(last + 1);
+    let least = search.around.columns.first.max(part.touched.columns.first);
+    let first = row.x0.max(least).min(end);
     let mut nearest = best;
     for x in first..end {
         let y = floor_of(row, x);
-        nearest = in_cell(mesh, part, NearCell { x, z, y }, search, nearest);
+        nearest = in_near_cell(mesh, part, NearCell { x, z, y }, search, best, nearest);
     }
     nearest
 }

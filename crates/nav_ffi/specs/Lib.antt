@@ -8,5 +8,5 @@ pub mod Jobs
 pub mod Triangles
 pub mod Changing
 pub mod Version
-pub mod Shapes
+pub mod Registries
 pub mod Meshes

@@ -5,8 +5,9 @@
 //! was, and its status, its counts and what it leaves in the host's arrays are those of an answer that is right in the published mesh, or what
 //! there is to draw: the definitions stand in `nav_handle` with what crosses the border (`specs/Answers.antt`, `specs/Hopping.antt`,
 //! `specs/Walking.antt`, `specs/Looking.antt` there), in `way_handle/specs` and in `place_handle/specs`. How levels are opened stands in
-//! `specs/Opening.antt`, `specs/Triangles.antt` and `specs/Meshes.antt`, what views show in `specs/Viewing.antt`, which tiles changed in
-//! `specs/Changing.antt`, the version in `specs/Version.antt`. No call asks anything of its numbers: those that are out of their limits are told so, and no others.
+//! `specs/Opening.antt`, `specs/Triangles.antt` and `specs/Meshes.antt`, what views show in `specs/Viewing.antt` and `specs/Registries.antt`, what the
+//! calls of a registry make of it in `registry_handle/specs`, which tiles changed in `specs/Changing.antt`, the version in `specs/Version.antt`. No
+//! call asks anything of its numbers: those that are out of their limits are told so, and no others.
 #![tactic(auto)]
 
 mod changes;
@@ -17,6 +18,7 @@ mod meshes;
 mod opening;
 mod places;
 mod questions;
+mod registries;
 mod requests;
 mod shapes;
 mod version;
@@ -32,13 +34,18 @@ pub use jobs::{
 pub use looking::{navd_border_links, navd_inner_links, navd_obstacles, navd_polygons};
 pub use meshes::{navd_dequantize, navd_frame_of, navd_open_mesh, navd_quantize};
 pub use opening::{navd_close, navd_open, navd_open_triangles, navd_renew};
-pub use places::{navd_view_height, navd_view_is_place, navd_view_nearest};
+pub use places::{navd_view_height, navd_view_is_place, navd_view_nearest, navd_view_random_place};
 pub use questions::{
     navd_cast_ray, navd_count, navd_find_hop, navd_find_path, navd_floors, navd_march,
     navd_prepare, navd_send,
 };
+pub use registries::{
+    navd_registry_add, navd_registry_begin, navd_registry_close, navd_registry_enable,
+    navd_registry_look, navd_registry_mark, navd_registry_move, navd_registry_remove,
+    navd_registry_rows, navd_registry_update,
+};
 pub use requests::{navd_add_block, navd_add_cylinder, navd_remove};
-pub use shapes::{NavdDisc, NavdPrism, navd_add_disc, navd_add_prism};
+pub use shapes::{navd_add_disc, navd_add_prism};
 pub use version::navd_version;
 pub use views::{
     navd_look, navd_view_border_links, navd_view_cast_ray, navd_view_close, navd_view_count,

@@ -6,6 +6,7 @@ ghost use Rattle.mesh_place.specs.Nearest.{CanAskNear};
 ghost use Rattle.nav_handle.specs.Answers.{EndsSo, IsAskedBy, seen_in};
 ghost use Rattle.nav_handle.specs.Statuses as status;
 ghost use Rattle.place_handle.specs.Checking.{IsPlaceCheck, check_ends, told_check};
+ghost use Rattle.place_handle.specs.Drawing.{IsDrawnBy, draw_asked, draw_ends, told_draw};
 ghost use Rattle.place_handle.specs.Heights.{IsHeightAt, height_ends, told_height};
 ghost use Rattle.place_handle.specs.Nearing.{IsNearestTo, near_asked, near_ends, told_near};
 ghost use Rattle.place_handle.specs.Places.{place_of};
@@ -50,4 +51,19 @@ pub extern "C" fn navd_view_is_place(alloc: Global, view: &mut NavdView, place: 
     ensures same { view.new.view ≡ view.old.view }
 {
     place_handle::is_place(alloc, view, place)
+}
+
+/// The place that a number draws in the mesh that a view shows, of the cells of some areas, bit a for area a.
+#[unsafe(no_mangle)]
+pub extern "C" fn navd_view_random_place(
+    alloc: Global,
+    view: &mut NavdView,
+    areas: u64,
+    draw: u64,
+    place: &mut NavdPlace,
+) -> u32
+    ensures asked { IsAskedBy (IsDrawnBy (draw_asked areas draw)) draw_ends told_draw (seen_in view.old.view) place.old place.new result }
+    ensures same { view.new.view ≡ view.old.view }
+{
+    place_handle::draw_place(alloc, view, areas, draw, place)
 }

@@ -26,7 +26,7 @@ use nav_handle::{
 use std::alloc::{AllocError, Global};
 
 /// A view of what a level has published, on the heap, with the costs that the handle's view has of its own, if it holds one that has some.
-fn next_view(
+pub(crate) fn next_view(
     alloc: Global,
     view: &mut NavdView,
     level: &Level,

@@ -1,6 +1,9 @@
 pub mod Entries
 pub mod Counts
 pub mod Rows
+pub mod Ranks
+pub mod Again
 pub mod Keeping
 pub mod Switching
 pub mod Updating
+pub mod Renewing

@@ -6,14 +6,16 @@
 //! was asked for once what it aimed at before is shown, builds at most so many tiles, and publishes; a move is so never shown half. `version`
 //! counts how often something new was shown.
 //!
-//! The history is not begun again here: where it may not have two entries more, what would make one is refused (`HistoryFull`).
+//! Where the history may not have two entries more, what would make one is refused (`HistoryFull`). `renew_if_due` begins it again before that,
+//! once all of it is shown: the obstacles stay as they are, and so does what is shown.
 //!
-//! `row`: an obstacle, and why a call is refused. `live`: a level with the numbers of its alive obstacles at hand. `update`: the steps of an
-//! update. `registry`: the rows.
+//! `row`: an obstacle, and why a call is refused. `live`: a level with the numbers of its alive obstacles at hand. `renew`: numbers once a history
+//! has begun again. `update`: the steps of an update. `registry`: the rows.
 #![tactic(auto)]
 
 mod live;
 mod registry;
+mod renew;
 mod row;
 mod update;
 

@@ -7,8 +7,13 @@ ghost use Rattle.nav_ground.specs.History.{history_limit};
 ghost use Rattle.nav_ground.specs.Limits.{IsShape};
 ghost use Rattle.obstacle_registry.specs.Changes.{next_number, put_up, taken_down};
 ghost use Rattle.obstacle_registry.specs.Updates.{IsPartOfUpdate, aimed_if_shown, is_showing, tiles_built, updated};
+ghost use Rattle.build_queue.specs.Renewal.{IsAllShown};
+ghost use Rattle.build_queue.specs.StepContracts.{IsRenewStep};
+ghost use Rattle.nav_book.specs.LevelResults.{published_mesh};
 ghost use Rattle.obstacle_registry.specs.Registry.{alive_now, has_room, is_crowded};
+ghost use Rattle.obstacle_registry.specs.Renewal.{is_due};
 
+use crate::renew::count_up;
 use crate::update::{Updated, update};
 use nav_base::Steps;
 use nav_book::Level;
@@ -17,10 +22,13 @@ use std::alloc::{AllocError, Global};
 use std::marker::Model;
 use std::sync::ledger::Ledger;
 
+/// How many entries a history has before it is begun again: half of those that it may have.
+const LONG_HISTORY: u32 = 131072;
+
 /// A level, and the numbers of its obstacles that are alive, rising. It is seen as the level.
 #[derive(Drop)]
 pub(crate) struct LiveLevel {
-    level: Level,
+    level: Box<Level, Global>,
     numbers: Vec<u32>,
 }
 
@@ -37,14 +45,22 @@ impl Model for LiveLevel {
 
 impl LiveLevel {
     /// A level of which no obstacle is alive, with room for as many numbers as may be.
-    pub(crate) fn new(level: Level, numbers: Vec<u32>) -> LiveLevel
-        requires rules { IsBook level }
-        requires alive { alive_now level ≡ [] }
+    pub(crate) fn new(level: Box<Level, Global>, numbers: Vec<u32>) -> LiveLevel
+        requires rules { IsBook level.value }
+        requires alive { alive_now level.value ≡ [] }
         requires none { numbers.items ≡ [] }
-        requires room { level.ground.setting.limit ≤ vec_capacity numbers }
-        ensures { result ≡ level }
+        requires room { level.value.ground.setting.limit ≤ vec_capacity numbers }
+        ensures { result ≡ level.value }
     {
         LiveLevel { level, numbers }
+    }
+
+    /// The level again.
+    pub(crate) fn into_level(self) -> Box<Level, Global>
+        ensures { result.value ≡ self }
+    {
+        let LiveLevel { level, numbers: _ } = self;
+        level
     }
 
     /// Whether as many obstacles are alive as may be.
@@ -110,10 +126,36 @@ impl LiveLevel {
         update(&mut self.level, alloc, most, steps)
     }
 
+    /// Whether all of a history is shown that is half as long as it may be.
+    pub(crate) fn is_due(&self) -> bool
+        ensures { result ≡ is_due self.now }
+    {
+        self.level.length() >= LONG_HISTORY && self.level.published() == self.level.length()
+    }
+
+    /// Begins the history again, all of which is shown.
+    pub(crate) fn begin_again(&mut self)
+        requires { IsAllShown self.old }
+        ensures did { IsRenewStep self.old self.new }
+        ensures mesh { published_mesh self.new ≡ published_mesh self.old }
+    {
+        self.level.begin_again();
+        count_up(self.numbers.as_mut_slice());
+    }
+
+    /// The numbers of the obstacles that are alive, rising.
+    pub(crate) fn numbers(&self) -> &[u32]
+        ensures value { result.now ≡ alive_now self.now }
+        ensures few { length result.now ≤ 1024 }
+        ensures rules { IsBook self.now }
+    {
+        self.numbers.as_slice()
+    }
+
     /// The level.
     pub(crate) fn level(&self) -> &Level
         ensures { result.now ≡ self.now }
     {
-        &self.level
+        self.level.as_ref()
     }
 }

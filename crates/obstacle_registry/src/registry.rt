@@ -9,9 +9,13 @@ ghost use Rattle.obstacle_registry.specs.declared.row.Registered.{Registered};
 ghost use Rattle.obstacle_registry.specs.declared.row.Refused.TheVariants.{NoMemory, TooMany};
 ghost use Rattle.obstacle_registry.specs.Changes.{after_add, after_enable, after_mark, after_move, after_remove, dropped, switched_off, switched_on, why_not_added, why_not_enabled, why_not_marked, why_not_taken, with_rewritten};
 ghost use Rattle.obstacle_registry.specs.Updates.{IsPartOfUpdate, after_update, aimed_if_shown, is_showing, tiles_built};
+ghost use Rattle.build_queue.specs.Renewal.{IsAllShown};
+ghost use Rattle.nav_book.specs.LevelResults.{published_mesh};
+ghost use Rattle.obstacle_registry.specs.Renewal.{IsKeptShort, IsRenewedRegistry, is_due};
 ghost use Rattle.obstacle_registry.specs.Registry.{IsOffAt, IsRegistry, IsRewriting, alive_now, first_registry, has_room, is_crowded, is_crowded_registry, is_last_version, is_on, row_of};
 
 use crate::live::LiveLevel;
+use crate::renew::renumber;
 use crate::row::{Refused, Registered};
 use crate::update::Updated;
 use nav_base::Steps;
@@ -49,10 +53,10 @@ impl Model for Registry {
 
 impl Registry {
     /// The registry of a level of which no obstacle is alive: without rows, and its version is 0. Where memory is refused, the level is given back.
-    pub fn begin(alloc: Global, level: Level) -> Result<Registry, Level>
-        requires { alive_now level ≡ [] }
-        ensures begun { IfOk result (λ made. made ≡ first_registry level) }
-        ensures refused { IfErr result (λ back. back ≡ level) }
+    pub fn begin(alloc: Global, level: Box<Level, Global>) -> Result<Registry, Box<Level, Global>>
+        requires { alive_now level.value ≡ [] }
+        ensures begun { IfOk result (λ made. made ≡ first_registry level.value) }
+        ensures refused { IfErr result (λ back. back.value ≡ level.value) }
         ensures rules { IfOk result IsRegistry }
     {
         let limit = level.ground().setting.limit as usize;
@@ -69,6 +73,14 @@ impl Registry {
             }
             Err(_) => Err(level),
         }
+    }
+
+    /// The level again, with the obstacles as they are.
+    pub fn into_level(self) -> Box<Level, Global>
+        ensures { result.value ≡ self.book }
+    {
+        let Registry { level, rows: _, .. } = self;
+        level.into_level()
     }
 
     /// Adds an obstacle, and gives its id, which no other one had or will have. It is alive from now on, and seen once it is published.
@@ -226,6 +238,29 @@ impl Registry {
             }
             Err(_) => Err(Refused::NoMemory),
         }
+    }
+
+    /// Begins the history of the level again, where all of it is shown and it is half as long as it may be. The obstacles stay as they are but for the
+    /// numbers of their entries, and so does what is shown.
+    pub fn renew_if_due(&mut self)
+        ensures short { IsKeptShort (is_due self.old.book) self.old self.new }
+        ensures mesh { published_mesh self.new.book ≡ published_mesh self.old.book }
+        ensures rules { IsRegistry self.new }
+    {
+        if self.level.is_due() {
+            self.renew();
+        }
+    }
+
+    /// Begins the history of the level again, all of which is shown.
+    fn renew(&mut self)
+        requires { IsAllShown self.old.book }
+        ensures renewed { IsRenewedRegistry self.old self.new }
+        ensures mesh { published_mesh self.new.book ≡ published_mesh self.old.book }
+        ensures rules { IsRegistry self.new }
+    {
+        renumber(self.rows.as_mut_slice(), self.level.numbers());
+        self.level.begin_again();
     }
 
     /// The level, to ask of what it shows.

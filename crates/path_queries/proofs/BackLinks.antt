@@ -1,26 +1,20 @@
 -- Which links a search back leaves a polygon by, and what their arcs enter and weigh: what the reverse of each does.
 use Rattle.std.proofs.Common.{◌≡◌, ℕ, ◌<◌, ◌*◌, max, Bool, true, false, List, [], ◌∷◌, length, map, refl, sym, subst, ap, ◌∙◌}
-use Rattle.std.specs.Prelude.{Contains, Option, Some, if◌then◌else◌, slice_index, slice_index_or}
-use Rattle.std.specs.Option.{option_map_or}
-use Rattle.std.proofs.lemmas.List.{get_or-map, length-map}
+use Rattle.std.specs.Prelude.{Contains, if◌then◌else◌, slice_index}
 use Rattle.std.proofs.lemmas.List.Elements.{Contains-get_or}
 use Rattle.nav_base.specs.Distance.{distance_of}
 use Rattle.mesh_types.specs.declared.extent.Extent.{Extent}
 use Rattle.mesh_types.specs.declared.links.Link.{Link}
-use Rattle.mesh_types.specs.declared.links.PolyRef.{PolyRef}
 use Rattle.mesh_types.specs.declared.mesh.Mesh.{Mesh}
-use Rattle.mesh_types.specs.declared.polygon.Polygon.{Polygon}
-use Rattle.mesh_types.specs.Corridors.{centre_of, weight_of}
 use Rattle.mesh_types.specs.Passages.{reverse_of}
 use Rattle.mesh_types.specs.Soundness.{IsSound}
-use Rattle.mesh_types.specs.WholeMesh.{poly_at}
 use Rattle.graph_search.specs.declared.graph.Arc.{Arc}
 use Rattle.graph_search.specs.declared.graph.Step.{Step}
 use Rattle.graph_search.specs.declared.graph.Vertex.{Vertex}
 use Rattle.graph_search.specs.Walks.{arc_of, ends_of}
 use Rattle.graph_search.proofs.Members.{contains_none}
 use Rattle.graph_search.proofs.Moves.{arc-of-move, move-there, move_of}
-use Rattle.corridor_search.specs.MeshGraphs.{IsThere, end_of, links_from, no_link, polygon_of, vertex_of}
+use Rattle.corridor_search.specs.MeshGraphs.{IsThere, end_of, links_from, no_link, polygon_of}
 use Rattle.corridor_search.specs.Estimates.{extent_at, middle_of}
 use Rattle.corridor_search.proofs.Extents.{extent-is}
 use Rattle.corridor_search.proofs.LinkWeights.{weight-is}

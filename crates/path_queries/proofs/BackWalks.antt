@@ -1,6 +1,6 @@
 -- An allowed walk to a polygon is a walk in the graph that is searched back from there, and each arc of that is the reverse of a link by which
 -- an allowed walk comes.
-use Rattle.std.proofs.Common.{◌≡◌, ℕ, suc, ◌+◌, true, List, [], ◌∷◌, ◌++◌, refl, sym, subst, ap, ◌∙◌, arith}
+use Rattle.std.proofs.Common.{◌≡◌, ℕ, suc, ◌+◌, List, [], ◌∷◌, ◌++◌, refl, sym, subst, ap, ◌∙◌, arith}
 use Rattle.std.specs.Prelude.{All, Contains}
 use Rattle.std.proofs.lemmas.List.Elements.{Contains-get_or}
 use Rattle.std.proofs.lemmas.List.Sums.{sum_by-cons}
@@ -18,7 +18,7 @@ use Rattle.graph_search.specs.declared.graph.Vertex.{Vertex}
 use Rattle.graph_search.specs.Explored.{IsReachedBy, step_from}
 use Rattle.graph_search.specs.Walks as graph
 use Rattle.graph_search.proofs.Moves.{MovesTo, arc-of-move, move-there, move_of, moves-step, weight_by}
-use Rattle.corridor_search.specs.MeshGraphs.{links_from, no_link, polygon_of, vertex_of}
+use Rattle.corridor_search.specs.MeshGraphs.{no_link, polygon_of, vertex_of}
 use Rattle.corridor_search.specs.Estimates.{extent_at}
 use Rattle.corridor_search.proofs.Extents.{extent-is}
 use Rattle.corridor_search.proofs.Sound.{leads, leaves-listed}

@@ -1,5 +1,5 @@
 -- What a plan answers where a partial way is asked for.
-use Rattle.std.proofs.Common.{◌≡◌, ℕ, ◌+◌, ◌*◌, ◌<◌, ◌≤◌, ◌⊎◌, inl, inr, true, false, List, [], ◌∷◌, length, refl, sym, ap, subst, ◌∙◌, arith}
+use Rattle.std.proofs.Common.{◌≡◌, ℕ, ◌+◌, ◌<◌, ◌≤◌, ◌⊎◌, inl, inr, true, List, [], ◌∷◌, length, refl, sym, ap, subst, ◌∙◌, arith}
 use Rattle.std.specs.Prelude.{Contains, slice_get, Some}
 use Rattle.std.proofs.lemmas.Bool.{cases_lt}
 use Rattle.std.proofs.lemmas.Option.{slice_get_within}
@@ -25,15 +25,14 @@ use Rattle.corridor_search.specs.MeshGraphs.{IsThere, polygon_of, vertex_of}
 use Rattle.path_queries.specs.declared.plans.PathQuery.{PathQuery}
 use Rattle.path_queries.specs.declared.plans.WayEnd.{WayEnd}
 use Rattle.path_queries.specs.declared.spots.Spot.{Spot}
-use Rattle.path_queries.specs.declared.spots.Toward.{Toward}
 use Rattle.path_queries.specs.Filters.{AllowedTo, priced}
 use Rattle.path_queries.specs.FilteredGraphs.{leads_on}
 use Rattle.path_queries.specs.PartialWays.{IsAllSeen, IsHeading, IsNoWorse, IsOpenGoal, IsPartialWay, IsSpot, nearness_of, rest_of}
-use Rattle.path_queries.specs.Plans.{CanPlan, IsWay}
+use Rattle.path_queries.specs.Plans.{IsWay}
 use Rattle.path_queries.specs.Reached.{AreOpenGoals, IsEndOf, IsReachedList, IsWayTo, limits_of}
 use Rattle.path_queries.specs.Reaches.{ArePlanLimits, IsDeep}
 use Rattle.path_queries.specs.Searches.{IsSearchedThrough, is_kept}
-use Rattle.path_queries.specs.Spots.{IsKeptAt, IsNearestSpot}
+use Rattle.path_queries.specs.Spots.{IsNearestSpot}
 use Rattle.path_queries.proofs.AllowedWalks.{end-on}
 use Rattle.path_queries.proofs.FilteredLinks.{start-on}
 use Rattle.path_queries.proofs.ReachLaws.{apart-all, beyond-seen, has-one, only-one}

@@ -1,10 +1,10 @@
 -- The nearest spot of the polygons that a search reached.
-use Rattle.std.proofs.Common.{◌≡◌, ℕ, ◌+◌, ◌*◌, ◌<◌, ◌≤◌, ℤ, pos, negsuc, ◌+ℤ◌, ◌-ℤ◌, ◌≤ℤ◌, ◌⊎◌, inl, inr, true, false, Bool, List, length, refl, sym, ap, subst, ◌∙◌, arith}
-use Rattle.std.specs.Prelude.{slice_get, slice_index_or, Some, unsigned_abs}
+use Rattle.std.proofs.Common.{◌≡◌, ℕ, ◌+◌, ◌*◌, ◌<◌, ◌≤◌, ℤ, pos, negsuc, ◌+ℤ◌, ◌-ℤ◌, ◌≤ℤ◌, ◌⊎◌, inl, inr, false, List, refl, sym, ap, subst, ◌∙◌, arith}
+use Rattle.std.specs.Prelude.{slice_get, Some, unsigned_abs}
 use Rattle.std.proofs.lemmas.Bool.{cases_order, both_ways}
 use Rattle.std.proofs.lemmas.Int.{ints}
 use Rattle.std.proofs.lemmas.Nat.{mul-le}
-use Rattle.std.proofs.lemmas.Option.{same_Some, slice_get_within}
+use Rattle.std.proofs.lemmas.Option.{same_Some}
 use Rattle.nav_base.specs.declared.point.Point.{Point}
 use Rattle.nav_base.specs.Deviation.{square_of}
 use Rattle.nav_base.specs.Point.{HasCoordinates, IsCoordinate, from_to}
@@ -21,21 +21,20 @@ use Rattle.mesh_types.specs.WholeMesh.{poly_at}
 use Rattle.mesh_types.proofs.HeldPoints.{held_coordinates}
 use Rattle.mesh_locate.specs.Nearest.{IsInBox}
 use Rattle.mesh_locate.proofs.Reached.{held_in_box}
-use Rattle.mesh_place.specs.HeldPoints.{IsNearestHeld}
 use Rattle.mesh_place.specs.Searches.{box_gap}
 use Rattle.mesh_place.proofs.HeldLaws.{corner_held, no_nearer}
 use Rattle.mesh_place.proofs.Squares.{box_least, square_parts}
 use Rattle.graph_search.specs.declared.exploring.ReachedVertex.{ReachedVertex}
 use Rattle.graph_search.proofs.ReachedLists.{get-one}
 use Rattle.corridor_search.specs.Estimates.{extent_at}
-use Rattle.corridor_search.specs.MeshGraphs.{IsThere, polygon_of}
+use Rattle.corridor_search.specs.MeshGraphs.{polygon_of}
 use Rattle.corridor_search.proofs.Extents.{extent-is}
 use Rattle.corridor_search.proofs.Sound.{polygon-rules}
 use Rattle.path_queries.specs.declared.spots.Spot.{Spot}
 use Rattle.path_queries.specs.declared.spots.Toward.{Toward}
-use Rattle.path_queries.specs.PartialWays.{IsNoWorse, nearness_of}
+use Rattle.path_queries.specs.PartialWays.{IsNoWorse}
 use Rattle.path_queries.specs.Searches.{is_kept}
-use Rattle.path_queries.specs.Spots.{IsKeptAt, IsNearerSpot, IsNearestBefore, IsNoneBetter, IsSpotNear, IsToward, near_of}
+use Rattle.path_queries.specs.Spots.{IsKeptAt, IsNearerSpot, IsNearestBefore, IsNoneBetter, IsSpotNear, near_of}
 
 -- ---- squares of distances
 

@@ -10,7 +10,7 @@ ghost use Rattle.path_queries.specs.BackGraphs.{IsExploredBack};
 ghost use Rattle.path_queries.specs.Filters.{IsFilter, costs_in};
 
 use crate::filtered_graph::step_cost;
-use crate::filters::{Filter, is_open};
+use crate::filters::{Filter, are_all_open, is_open};
 use corridor_search::{extent_at, middle, polygon_at, push_link_ends, vertex_at};
 use graph_search::{Explored, Graph, Limits, Step, Vertex, explore};
 use mesh_types::{Mesh, PolyRef};
@@ -70,6 +70,9 @@ fn may_be_entered(mesh: &Mesh, areas: u64, at: PolyRef) -> bool
     requires there { IsThere mesh.now at }
     ensures { result ≡ Rattle.path_queries.specs.Filters.is_open areas (extent_at mesh.now at).area }
 {
+    if are_all_open(areas) {
+        return true;
+    }
     is_open(areas, extent_at(mesh, at).area)
 }
 

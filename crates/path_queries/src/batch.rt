@@ -6,7 +6,6 @@ ghost use Rattle.nav_ground.specs.Limits.{IsSetting};
 ghost use Rattle.mesh_types.specs.declared.links.Link as references;
 ghost use Rattle.mesh_types.specs.Passages.{IsTwoWay};
 ghost use Rattle.mesh_types.specs.Soundness.{IsSound};
-ghost use Rattle.corridor_search.specs.MeshGraphs.{inner_links, outer_links};
 ghost use Rattle.path_queries.specs.Batches.{AreLinked, AreRightPlans, IsFloodToGoal, IsLinkBetween, LeadToFirst, flooded_at, query_from};
 ghost use Rattle.path_queries.specs.Filters.{IsFilter};
 ghost use Rattle.path_queries.specs.NearestGoals.{HasGoalCoordinates};
@@ -15,6 +14,7 @@ ghost use Rattle.path_queries.specs.Plans.{IsRightPlan};
 use crate::filters::Filter;
 use crate::floods::Flooded;
 use crate::floods_back::flood_to;
+use crate::leaving::{inner, outer};
 use crate::nearest::Goal;
 use crate::plans::{PathQuery, PlanAnswer, WayEnd, least_floor, plan, turns};
 use mesh_locate::locate;
@@ -44,7 +44,38 @@ pub fn plans_to(
         return one_by_one(alloc, mesh, starts, goal, filter);
     };
     let list = flood_to(alloc, mesh, filter, last, u64::MAX)?;
-    plans_by(alloc, mesh, filter, list.as_slice(), starts, goal)
+    let polygons = list.as_slice();
+    let guesses = guesses(alloc, mesh, polygons)?;
+    let flood = IndexedFlood {
+        list: polygons,
+        guesses: guesses.as_slice(),
+    };
+    plans_by(alloc, mesh, filter, flood, starts, goal)
+}
+
+/// The polygons of a flood, and where each of them may stand in it, by tile and place there: a guess, which is tested.
+#[derive(Clone, Copy)]
+struct IndexedFlood<'a> {
+    list: &'a [Flooded],
+    guesses: &'a [Vec<usize>],
+}
+
+/// The places of the polygons of a flood, by tile and place there, of which nothing is promised.
+fn guesses(alloc: Global, mesh: &Mesh, list: &[Flooded]) -> Result<Vec<Vec<usize>>, AllocError> {
+    let mut guesses = Vec::with_capacity(alloc, mesh.tiles.len())?;
+    for tile in 0..mesh.tiles.len() {
+        let mut places = Vec::new(alloc);
+        places.resize(mesh.tiles.at(tile).get().polys.len(), 0)?;
+        guesses.push(places)?;
+    }
+    for (place, flooded) in list.iter().enumerate() {
+        let tile = flooded.at.tile as usize;
+        let index = flooded.at.index as usize;
+        if tile < guesses.len() && index < guesses[tile].len() {
+            guesses[tile][index] = place;
+        }
+    }
+    Ok(guesses)
 }
 
 /// The answers where no polygon holds the goal: each question by itself, which then searches nothing.
@@ -84,20 +115,20 @@ fn plans_by(
     alloc: Global,
     mesh: &Mesh,
     filter: &Filter,
-    list: &[Flooded],
+    flood: IndexedFlood<'_>,
     starts: &[Goal],
     goal: Goal,
 ) -> Result<Vec<PlanAnswer>, AllocError>
     requires sound { IsSound mesh.now }
     requires setting { IsSetting mesh.now.setting }
-    requires flood { IsFloodToGoal mesh.now goal filter.now list.now }
+    requires flood { IsFloodToGoal mesh.now goal filter.now flood.list.now }
     requires starts { All HasGoalCoordinates starts.now }
     requires goal { HasGoalCoordinates goal }
     ensures { IfOk result (λ answers. AreRightPlans mesh.now goal filter.now starts.now answers.items) }
 {
     let mut answers = Vec::with_capacity(alloc, starts.len())?;
     for start in starts {
-        answers.push(plan_by(alloc, mesh, filter, list, *start, goal)?)?;
+        answers.push(plan_by(alloc, mesh, filter, flood, *start, goal)?)?;
     }
     Ok(answers)
 }
@@ -107,13 +138,13 @@ fn plan_by(
     alloc: Global,
     mesh: &Mesh,
     filter: &Filter,
-    list: &[Flooded],
+    flood: IndexedFlood<'_>,
     start: Goal,
     goal: Goal,
 ) -> Result<PlanAnswer, AllocError>
     requires sound { IsSound mesh.now }
     requires setting { IsSetting mesh.now.setting }
-    requires flood { IsFloodToGoal mesh.now goal filter.now list.now }
+    requires flood { IsFloodToGoal mesh.now goal filter.now flood.list.now }
     requires start { HasGoalCoordinates start }
     requires goal { HasGoalCoordinates goal }
     ensures { IfOk result (λ answer. IsRightPlan (query_from goal filter.now start) mesh.now answer) }
@@ -121,7 +152,8 @@ fn plan_by(
     let Some(first) = locate(mesh, start.point, start.y) else {
         return Ok(PlanAnswer::NoStart);
     };
-    let Some(place) = place_of(list, first) else {
+    let list = flood.list;
+    let Some(place) = place_of(list, guess(flood.guesses, first), first) else {
         return Ok(PlanAnswer::NoPath);
     };
     let links = links_from(alloc, mesh, list, place)?;
@@ -141,8 +173,37 @@ fn plan_by(
     Ok(PlanAnswer::Whole { way, end })
 }
 
-/// The place of a polygon in a flood; none exactly where it is not there.
-fn place_of(list: &[Flooded], at: PolyRef) -> Option<usize>
+/// What is guessed to be the place of a polygon; 0 where nothing is.
+fn guess(guesses: &[Vec<usize>], at: PolyRef) -> usize {
+    match guesses.get(at.tile as usize) {
+        Some(places) => place_in(places.as_slice(), at.index as usize),
+        None => 0,
+    }
+}
+
+/// The same in a tile.
+fn place_in(places: &[usize], index: usize) -> usize {
+    match places.get(index) {
+        Some(place) => *place,
+        None => 0,
+    }
+}
+
+/// The place of a polygon in a flood; none exactly where it is not there. It is looked for in the whole flood only where it does not stand
+/// at the place that is guessed.
+fn place_of(list: &[Flooded], guess: usize, at: PolyRef) -> Option<usize>
+    ensures there { IfSome result (λ place. place < length list.now) }
+    ensures some { IfSome result (λ place. (flooded_at list.now place).at ≡ at) }
+    ensures none { IfNone result ((place : ℕ) → place < length list.now → (flooded_at list.now place).at ≡ at → ⊥) }
+{
+    if guess < list.len() && is_same(list[guess].at, at) {
+        return Some(guess);
+    }
+    first_place(list, at)
+}
+
+/// The first place of a polygon in a flood; none exactly where it is not there.
+fn first_place(list: &[Flooded], at: PolyRef) -> Option<usize>
     ensures there { IfSome result (λ place. place < length list.now) }
     ensures some { IfSome result (λ place. (flooded_at list.now place).at ≡ at) }
     ensures none { IfNone result ((place : ℕ) → place < length list.now → (flooded_at list.now place).at ≡ at → ⊥) }
@@ -209,24 +270,4 @@ fn first_into(links: &[Link], to: PolyRef) -> Option<Link>
         }
     }
     None
-}
-
-/// The links that leave a polygon inside its tile.
-fn inner(mesh: &Mesh, at: PolyRef) -> &[Link]
-    ensures { result.now ≡ inner_links mesh.now at }
-{
-    match mesh.tiles.get(at.tile as usize) {
-        Some(tile) => tile.get().links.leaving(at.index),
-        None => &[],
-    }
-}
-
-/// The links that leave a polygon over its tile's border.
-fn outer(mesh: &Mesh, at: PolyRef) -> &[Link]
-    ensures { result.now ≡ outer_links mesh.now at }
-{
-    match mesh.cross.get(at.tile as usize) {
-        Some(links) => links.get().leaving(at.index),
-        None => &[],
-    }
 }

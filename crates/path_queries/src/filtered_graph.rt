@@ -10,7 +10,7 @@ ghost use Rattle.corridor_search.specs.Estimates.{IsBox, middle_of};
 ghost use Rattle.path_queries.specs.Filters.{AreCosts};
 ghost use Rattle.path_queries.specs.FilteredGraphs.{leads_on};
 
-use crate::filters::is_open;
+use crate::filters::{are_all_open, is_open};
 use corridor_search::{distance, extent_at, middle, polygon_at, push_link_ends};
 use graph_search::{Graph, Step, Vertex};
 use mesh_types::{Extent, Mesh, PolyRef};
@@ -65,7 +65,11 @@ impl Graph for FilteredGraph<'_> {
         step_cost(self.costs, middle(left), entered)
     }
 
+    /// No root is taken where nothing is estimated, as in floods.
     fn estimate(&self, from: Vertex) -> u64 {
+        if self.least == 0 {
+            return 0;
+        }
         let middle = middle(extent_at(self.mesh, polygon_at(from)));
         u64::from(distance(middle, self.aim)) * u64::from(self.least)
     }
@@ -77,6 +81,9 @@ pub(crate) fn leads_on(mesh: &Mesh, areas: u64, start: PolyRef, at: PolyRef) -> 
     requires there { IsThere mesh.now at }
     ensures { result ≡ leads_on mesh.now areas start at }
 {
+    if are_all_open(areas) {
+        return true;
+    }
     at == start || is_open(areas, extent_at(mesh, at).area)
 }
 

@@ -1,7 +1,7 @@
 //! Filters. What a search goes by: costs of areas, and the least of them.
 
-ghost use Rattle.std.specs.Prelude.{◌≡◌, ◌<◌};
-ghost use Rattle.path_queries.specs.Filters.{AreCosts};
+ghost use Rattle.std.specs.Prelude.{◌≡◌, ◌<◌, true};
+ghost use Rattle.path_queries.specs.Filters.{AreAllOpen, AreCosts};
 ghost use Rattle.path_queries.specs.FilteredGraphs.{AreSearchCosts, IsLeastCost};
 
 use nav_ground::AREAS;
@@ -24,6 +24,13 @@ pub fn is_open(areas: u64, area: u32) -> bool
     ensures { result ≡ Rattle.path_queries.specs.Filters.is_open areas area }
 {
     (areas >> area) & 1 == 1
+}
+
+/// Whether it is seen at once that every area is open: all bits are set.
+pub(crate) fn are_all_open(areas: u64) -> bool
+    ensures { result ≡ true → AreAllOpen areas }
+{
+    areas == u64::MAX
 }
 
 /// The costs that a search goes by: those of open areas, and the greatest for closed ones. Links lead into polygons of closed areas too,

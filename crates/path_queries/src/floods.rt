@@ -98,7 +98,7 @@ fn polygons_of(
     ensures { IfOk result (λ list. list ≡ flooded_of mesh.now areas first reached.now) }
 {
     let mut places = Vec::with_capacity(alloc, reached.len())?;
-    let mut list = Vec::new(alloc);
+    let mut list = Vec::with_capacity(alloc, reached.len())?;
     for entry in reached {
         let at = polygon_at(entry.vertex);
         places.push(list.len())?;

@@ -3,3 +3,4 @@ pub mod Places
 pub mod Nearing
 pub mod Heights
 pub mod Checking
+pub mod Drawing

@@ -6,11 +6,13 @@
 #![tactic(auto)]
 
 mod checks;
+mod draws;
 mod heights;
 mod near;
 mod places;
 
 pub use checks::is_place;
+pub use draws::draw_place;
 pub use heights::height;
 pub use near::{NavdNear, nearest};
 pub use places::{NO_PLACE, NavdPlace};

@@ -14,8 +14,14 @@ pub(crate) enum Sketch {
     /// 8 by 6 columns, of which the column x has the top 10 + 2 x, as outlines: one polygon on the columns 1 to 6 and the rows 1 to 4.
     Ramp,
     /// 12 by 12 columns with the top 10, as outlines, and in the columns and rows 3 to 8 a deck with the top 32: the polygon 0 is the
-    /// ground, the polygon 1 the deck, on the columns and rows 4 to 7.
+    /// ground, the polygon 1 the deck, on the columns and rows 4 to 7, of the area 5.
     Deck,
+    /// 10 by 10 columns with the top 10, walkable where 2 x + z < 16, as outlines that may stray: one polygon with the corners (1, 1), (8, 2),
+    /// (4, 9) and (1, 9), over 40 cells.
+    Slant,
+    /// 11 by 11 columns with the top 10, as strips, and in the column 5 a wall in the rows 0 to 7: the polygons 0 to 13 are the rows 1 to 7,
+    /// on the columns 1 to 4 and on 6 to 9, the polygons 14 and 15 the rows 8 and 9, on the columns 1 to 9.
+    Wall,
 }
 
 /// The lines before the spans.
@@ -27,6 +33,12 @@ fn header(sketch: Sketch) -> &'static str {
         }
         Sketch::Deck => {
             "nav 1\nsize 12 12\ntile 12\nagent 6 4 0\nerror 0\nmesh contours\nlimit 4\n"
+        }
+        Sketch::Slant => {
+            "nav 1\nsize 10 10\ntile 10\nagent 6 4 0\nerror 169\nmesh contours\nlimit 4\n"
+        }
+        Sketch::Wall => {
+            "nav 1\nsize 11 11\ntile 11\nagent 6 4 0\nerror 0\nmesh strips\nlimit 4\n"
         }
     }
 }
@@ -40,6 +52,8 @@ fn size(sketch: Sketch) -> (u32, u32)
         Sketch::Flat => (6, 6),
         Sketch::Ramp => (8, 6),
         Sketch::Deck => (12, 12),
+        Sketch::Slant => (10, 10),
+        Sketch::Wall => (11, 11),
     }
 }
 
@@ -61,16 +75,29 @@ fn land(sketch: Sketch, x: u32) -> u32
     }
 }
 
+/// The area of the land in a column; 0 where it is not walkable.
+fn area(sketch: Sketch, x: u32, z: u32) -> u32
+    requires across { x ≤ 12 }
+    requires along { z ≤ 12 }
+{
+    match sketch {
+        Sketch::Slant if 2 * x + z >= 16 => 0,
+        Sketch::Wall if x == 5 && z < 8 => 0,
+        _ => 63,
+    }
+}
+
 /// Writes the spans of a column.
 fn write_column(out: &mut Vec<u8>, sketch: Sketch, x: u32, z: u32) -> Result<(), AllocError>
-    requires { x ≤ 12 }
+    requires across { x ≤ 12 }
+    requires along { z ≤ 12 }
 {
     let ground = Span {
         x,
         z,
         bottom: 0,
         top: land(sketch, x),
-        area: 63,
+        area: area(sketch, x, z),
     };
     write_span(out, &ground)?;
     if !has_deck(sketch, x, z) {
@@ -81,7 +108,7 @@ fn write_column(out: &mut Vec<u8>, sketch: Sketch, x: u32, z: u32) -> Result<(),
         z,
         bottom: 30,
         top: 32,
-        area: 63,
+        area: 5,
     };
     write_span(out, &deck)
 }

@@ -1,9 +1,11 @@
-//! Tests of places on meshes: the nearest place, heights, and whether a place is one of the mesh.
+//! Tests of places on meshes: the nearest place, heights, whether a place is one of the mesh, random places, and ways between places.
 //!
 //! The tests use public calls alone, and compare them with tables that were worked out by hand. They stand apart from what they test,
 //! so that no crate is proved a second time with its tests.
 #![tactic(auto)]
 
+#[cfg(test)]
+mod draws;
 #[cfg(test)]
 mod fields;
 #[cfg(test)]
@@ -14,3 +16,5 @@ mod meshes;
 mod nearest;
 #[cfg(test)]
 mod rows;
+#[cfg(test)]
+mod ways;

@@ -1,41 +1,20 @@
-use Rattle.std.proofs.Common.{List, length, sym, ap, subst, ◌∙◌, arith}
-use Rattle.std.specs.Prelude.{All}
+use Rattle.std.proofs.Common.{List, sym, subst, arith}
 use Rattle.std.proofs.lemmas.Bool.{iff_false}
 use Rattle.mesh_types.specs.declared.links.Link.{Link}
-use Rattle.mesh_types.specs.Corridors.{IsLinkOf, WalksTo, cost_of}
+use Rattle.mesh_types.specs.Corridors.{WalksTo}
 use Rattle.mesh_types.specs.Right.{portals_of}
 use Rattle.mesh_types.specs.Taut.{IsTaut}
-use Rattle.path_queries.specs.Filters.{priced}
 use Rattle.kept_paths.specs.KeptPaths.{LeadOn}
-use Rattle.kept_paths.proofs.LeadLaws.{lead-allowed, lead-few, lead-links, lead-walks}
+use Rattle.kept_paths.proofs.LeadLaws.{lead-allowed, lead-walks}
 use Rattle.kept_paths.proofs.PathParts.{pulled}
 use Rattle.kept_paths.proofs.checks.check_from.Goals as goal
 use Rattle.kept_paths.proofs.checks.check_from.Goals.{else-whole-via-then-whole+else-holds_at, else-whole-via-else-whole}
-
-pub cost-cost-requires-clause-links : goal.cost-cost-requires-clause-links
-cost-cost-requires-clause-links c =
-    let path = c.args.path.now in
-    let lead = c.in_ok-lead.lead in
-    let on = subst (λ (kept : List Link). LeadOn c.args.mesh.now path.filter.areas c.args.first kept lead.links lead.last) c.as_slice.ensures c.in_ok-lead.ensures in
-    subst (All (IsLinkOf c.args.mesh.now)) (sym c.as_slice-2.ensures) (lead-links c.args.mesh.now path.filter.areas c.args.first path.links lead.links lead.last on)
-
-pub cost-cost-requires-clause-few : goal.cost-cost-requires-clause-few
-cost-cost-requires-clause-few c =
-    let path = c.args.path.now in
-    let lead = c.in_ok-lead.lead in
-    let on = subst (λ (kept : List Link). LeadOn c.args.mesh.now path.filter.areas c.args.first kept lead.links lead.last) c.as_slice.ensures c.in_ok-lead.ensures in
-    omega (
-      arith,
-      lead-few c.args.mesh.now path.filter.areas c.args.first path.links lead.links lead.last on,
-      ap (λ (ls : List Link). length ls) c.as_slice-2.ensures,
-      c.requires.path.few,
-    )
 
 pub turns-requires-clause-chain : goal.turns-requires-clause-chain
 turns-requires-clause-chain c =
     let path = c.args.path.now in
     let lead = c.in_ok-lead.lead in
-    let on = subst (λ (kept : List Link). LeadOn c.args.mesh.now path.filter.areas c.args.first kept lead.links lead.last) c.as_slice.ensures c.in_ok-lead.ensures in
+    let on = subst (λ (kept : List Link). LeadOn c.args.mesh.now path.filter.areas c.args.first kept lead.links lead.last) c.as_slice.ensures c.in_ok-lead.ensures.leads in
     let walks = subst (λ (ls : List Link). WalksTo c.args.mesh.now c.args.first ls lead.last) (sym c.as_slice-then-holds_at.ensures)
     (lead-walks c.args.mesh.now path.filter.areas c.args.first path.links lead.links lead.last on) in
     (pulled c.args.mesh.now path.from path.from_y path.goal path.goal_y c.args.first lead.last c.as_slice-then-holds_at.result.now c.requires.sound
@@ -45,7 +24,7 @@ pub turns-requires-clause-coordinates : goal.turns-requires-clause-coordinates
 turns-requires-clause-coordinates c =
     let path = c.args.path.now in
     let lead = c.in_ok-lead.lead in
-    let on = subst (λ (kept : List Link). LeadOn c.args.mesh.now path.filter.areas c.args.first kept lead.links lead.last) c.as_slice.ensures c.in_ok-lead.ensures in
+    let on = subst (λ (kept : List Link). LeadOn c.args.mesh.now path.filter.areas c.args.first kept lead.links lead.last) c.as_slice.ensures c.in_ok-lead.ensures.leads in
     let walks = subst (λ (ls : List Link). WalksTo c.args.mesh.now c.args.first ls lead.last) (sym c.as_slice-then-holds_at.ensures)
     (lead-walks c.args.mesh.now path.filter.areas c.args.first path.links lead.links lead.last on) in
     (pulled c.args.mesh.now path.from path.from_y path.goal path.goal_y c.args.first lead.last c.as_slice-then-holds_at.result.now c.requires.sound
@@ -55,7 +34,7 @@ pub returns-then-holds_at : goal.returns-then-holds_at
 returns-then-holds_at c =
     let path = c.args.path.now in
     let lead = c.in_ok-lead.lead in
-    let on = subst (λ (kept : List Link). LeadOn c.args.mesh.now path.filter.areas c.args.first kept lead.links lead.last) c.as_slice.ensures c.in_ok-lead.ensures in
+    let on = subst (λ (kept : List Link). LeadOn c.args.mesh.now path.filter.areas c.args.first kept lead.links lead.last) c.as_slice.ensures c.in_ok-lead.ensures.leads in
     record {
       begins = c.requires.first;
       last = lead.last;
@@ -63,7 +42,7 @@ returns-then-holds_at c =
       all = omega (arith, c.if-whole.true, c.len.ensures, c.len-2.ensures);
       goal = c.holds_at.ensures.0 c.if-holds_at.true;
       allowed = lead-allowed c.args.mesh.now path.filter.areas c.args.first path.links lead.links lead.last on;
-      costs = c.cost-cost.ensures ∙ ap (cost_of (priced c.args.mesh.now path.filter)) c.as_slice-2.ensures;
+      costs = c.in_ok-lead.ensures.cost;
       taut = subst (λ (ls : List Link). IsTaut path.from (portals_of ls) path.goal c.in_ok-turns.turns) c.as_slice-then-holds_at.ensures c.in_ok-turns.ensures;
     }
 
@@ -71,7 +50,7 @@ pub returns : goal.returns
 returns c =
     let path = c.args.path.now in
     let lead = c.in_ok-lead.lead in
-    let on = subst (λ (kept : List Link). LeadOn c.args.mesh.now path.filter.areas c.args.first kept lead.links lead.last) c.as_slice.ensures c.in_ok-lead.ensures in
+    let on = subst (λ (kept : List Link). LeadOn c.args.mesh.now path.filter.areas c.args.first kept lead.links lead.last) c.as_slice.ensures c.in_ok-lead.ensures.leads in
     record {
       begins = c.requires.first;
       last = lead.last;
@@ -82,5 +61,5 @@ returns c =
             | else-whole-via-else-whole w ↦ absurd (omega (arith, w.if-whole.false, all, c.len.ensures, c.len-2.ensures))
           ];
       allowed = lead-allowed c.args.mesh.now path.filter.areas c.args.first path.links lead.links lead.last on;
-      costs = c.cost-cost.ensures ∙ ap (cost_of (priced c.args.mesh.now path.filter)) c.as_slice-2.ensures;
+      costs = c.in_ok-lead.ensures.cost;
     }

@@ -12,5 +12,5 @@ repair_behind-requires-clause-lead c =
       begins = c.in-Some.ensures.some;
       last = c.in_ok-lead.lead.last;
       leads = subst (λ (kept : List Link). LeadOn c.args.mesh.now path.filter.areas c.in-Some.first kept c.in_ok-lead.lead.links c.in_ok-lead.lead.last)
-          c.as_slice.ensures c.in_ok-lead.ensures;
+          c.as_slice.ensures c.in_ok-lead.ensures.leads;
     })

@@ -3,7 +3,7 @@ use Rattle.mesh_types.specs.declared.storeys.MeshPlace.{MeshPlace}
 use Rattle.mesh_locate.proofs.Reached.{box_there}
 use Rattle.mesh_place.specs.Searches.{box_gap}
 use Rattle.mesh_place.proofs.SearchLaws.{beyond, found_measurable, passed, skipped}
-use Rattle.mesh_place.proofs.ScanLaws.{far_box, not_open, low_area}
+use Rattle.mesh_place.proofs.ScanLaws.{far_box, not_open, low_area, part_of}
 use Rattle.mesh_place.proofs.scan.in_polygon.Goals as goal
 
 pub is_box_beyond-requires-clause-low : goal.is_box_beyond-requires-clause-low
@@ -35,3 +35,8 @@ returns-then-not-is_open c =
     passed c.args.mesh.now c.args.asked.now c.args.best (λ (other : MeshPlace). other.polygon ≡ c.args.at) c.requires.best
     (λ other stands near one. not_open c.args.mesh.now c.args.asked.now c.args.polygons.now c.args.at c.extent-extent.result c.requires.listed c.extent-extent.ensures
     (sym c.is_open.ensures ∙ c.if-not-is_open.true) other near one)
+
+pub in_part-requires-clause-part : goal.in_part-requires-clause-part
+in_part-requires-clause-part c =
+    part_of c.args.mesh.now c.args.asked.now c.args.polygons.now c.args.at c.extent-extent.result c.at.result c.cells_touched.result c.requires.listed
+    c.extent-extent.ensures c.requires.polygons c.requires.there c.at.ensures (sym c.is_open.ensures ∙ c.if-not-is_open.false) c.cells_touched.ensures

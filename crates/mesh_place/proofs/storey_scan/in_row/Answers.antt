@@ -11,17 +11,17 @@ loop-x-init c =
     let search = c.args.search.now in
     passed c.args.mesh.now search.asked c.args.best
     (λ (other : MeshPlace). IsInRow c.args.row.now c.args.part.now.at c.args.z c.min-first.result other × IsWithin search other.point) c.requires.best
-    (λ other stands near one. before_columns search c.args.row.now c.args.part.now.at c.args.z c.min-first.result c.requires.search
-    (omega (arith, c.min-first.ensures, c.max.ensures)) other one.1 one.0)
+    (λ other stands near one. before_columns c.args.mesh.now search c.args.part.now c.args.row.now c.args.z c.min-first.result c.requires.search c.requires.part
+    (omega (arith, c.min-first.ensures, c.max.ensures, c.max-least.ensures)) other stands one.1 one.0)
 
-pub in_cell-nearest-requires-clause-cell : goal.in_cell-nearest-requires-clause-cell
-in_cell-nearest-requires-clause-cell c =
+pub in_near_cell-nearest-requires-clause-cell : goal.in_near_cell-nearest-requires-clause-cell
+in_near_cell-nearest-requires-clause-cell c =
     cell_of c.args.mesh.now c.args.search.now.asked c.args.part.now c.args.row.now c.args.z c.loop-x.x c.floor_of-y.result c.requires.part c.requires.row c.requires.rules
     c.requires.inside (omega (arith, c.loop-x.auto.x, c.loop-x-test.true, c.min-first.ensures, c.max.ensures))
     (omega (arith, c.loop-x-test.true, c.min-end.ensures, c.len.ensures)) c.floor_of-y.ensures
 
-pub in_cell-nearest-requires-clause-best : goal.in_cell-nearest-requires-clause-best
-in_cell-nearest-requires-clause-best c = c.loop-x.invariant.found
+pub in_near_cell-nearest-requires-clause-best : goal.in_near_cell-nearest-requires-clause-best
+in_near_cell-nearest-requires-clause-best c = c.loop-x.invariant.found
 
 pub loop-x-preserved : goal.loop-x-preserved
 loop-x-preserved c =
@@ -29,11 +29,11 @@ loop-x-preserved c =
     let row = c.args.row.now in
     let part = c.args.part.now in
     let cell : NearCell = record { x = c.loop-x.x; z = c.args.z; y = c.floor_of-y.result } in
-    more c.args.mesh.now search.asked c.args.best c.loop-x.nearest c.in_cell-nearest.result
+    more c.args.mesh.now search.asked c.args.best c.loop-x.nearest c.in_near_cell-nearest.result
     (λ (other : MeshPlace). IsInRow row part.at c.args.z c.loop-x.x other × IsWithin search other.point)
     (λ (other : MeshPlace). IsOverCell part cell other × IsWithin search other.point)
     (λ (other : MeshPlace). IsInRow row part.at c.args.z (c.loop-x.x + 1) other × IsWithin search other.point)
-    c.loop-x.invariant c.in_cell-nearest.ensures (λ other stands near one. either_within (next_column row part cell other c.floor_of-y.ensures one.0) one.1)
+    c.loop-x.invariant c.in_near_cell-nearest.ensures (λ other stands near one. either_within (next_column row part cell other c.floor_of-y.ensures one.0) one.1)
 
 pub returns : goal.returns
 returns c =
@@ -45,7 +45,10 @@ returns c =
     (λ (other : MeshPlace). IsInRow row part.at c.args.z (row.x0 + length row.floors) other × IsWithin search other.point)
     c.loop-x.invariant
     (λ other stands near one. (
-      after_columns search row part.at c.args.z c.min-end.result c.loop-x.x c.requires.search (omega (arith, c.min-end.ensures, c.len.ensures)) c.loop-x-test.false other
-          one.1 one.0,
+      after_columns c.args.mesh.now search part row c.args.z c.min-end.result c.loop-x.x c.requires.search c.requires.part
+          (omega (arith, c.min-end.ensures, c.len.ensures, c.min-last.ensures)) c.loop-x-test.false other stands one.1 one.0,
       one.1,
     ))
+
+pub in_near_cell-nearest-requires-clause-kept : goal.in_near_cell-nearest-requires-clause-kept
+in_near_cell-nearest-requires-clause-kept c = c.loop-x.invariant.kept

@@ -10,8 +10,8 @@ loop-z-init c =
     let search = c.args.search.now in
     passed c.args.mesh.now search.asked c.args.best
     (λ (other : MeshPlace). IsInRows c.args.storey.now c.args.part.now.at c.min-first.result other × IsWithin search other.point) c.requires.best
-    (λ other stands near one. before_rows search c.args.storey.now c.args.part.now.at c.min-first.result c.requires.search
-    (omega (arith, c.min-first.ensures, c.max.ensures)) other one.1 one.0)
+    (λ other stands near one. before_rows c.args.mesh.now search c.args.part.now c.args.storey.now c.min-first.result c.requires.search c.requires.part
+    (omega (arith, c.min-first.ensures, c.max.ensures, c.max-least.ensures)) other stands one.1 one.0)
 
 pub in_row-nearest-requires-clause-row : goal.in_row-nearest-requires-clause-row
 in_row-nearest-requires-clause-row c = record {
@@ -46,7 +46,7 @@ returns c =
     fewer c.args.mesh.now search.asked c.args.best c.loop-z.nearest (λ (other : MeshPlace). IsInRows storey at c.loop-z.z other × IsWithin search other.point)
     (λ (other : MeshPlace). (other.polygon ≡ at) × IsWithin search other.point) c.loop-z.invariant
     (λ other stands near one. (
-      after_rows c.args.mesh.now search storey at c.min-end.result c.loop-z.z c.requires.search c.requires.home (omega (arith, c.min-end.ensures, c.len.ensures))
-          c.loop-z-test.false other stands one.1 one.0,
+      after_rows c.args.mesh.now search c.args.part.now storey c.min-end.result c.loop-z.z c.requires.search c.requires.part c.requires.home
+          (omega (arith, c.min-end.ensures, c.len.ensures, c.min-last.ensures)) c.loop-z-test.false other stands one.1 one.0,
       one.1,
     ))

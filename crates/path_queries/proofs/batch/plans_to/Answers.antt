@@ -8,5 +8,5 @@ flood_to-requires-clause-last c = located-there c.args.mesh.now c.args.goal.poin
 
 pub plans_by-requires-clause-flood : goal.plans_by-requires-clause-flood
 plans_by-requires-clause-flood c =
-    subst (IsFloodToGoal c.args.mesh.now c.args.goal c.args.filter.now) (sym c.as_slice.ensures)
+    subst (IsFloodToGoal c.args.mesh.now c.args.goal c.args.filter.now) (sym c.as_slice-polygons.ensures)
     (record { last = c.in-Some.last; located = c.in-Some.ensures.located; flood = c.in_ok-list.ensures })

@@ -1,4 +1,4 @@
-use Rattle.path_queries.proofs.PartialLaws.{none-open, one-open}
+use Rattle.path_queries.proofs.PartialLaws.{one-open}
 use Rattle.path_queries.proofs.partial.partial_plan.Goals as goal
 
 pub plan_toward-requires-clause-goals : goal.plan_toward-requires-clause-goals

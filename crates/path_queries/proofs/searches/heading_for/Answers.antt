@@ -1,4 +1,4 @@
-use Rattle.std.proofs.Common.{◌≡◌, ◌∙◌, ◌∷◌, [], List, ap, length, refl, sym, subst, arith}
+use Rattle.std.proofs.Common.{◌∙◌, List, ap, refl, sym, subst, arith}
 use Rattle.std.specs.Prelude.{Contains}
 use Rattle.mesh_types.specs.declared.links.PolyRef.{PolyRef}
 use Rattle.corridor_search.specs.Estimates.{extent_at, middle_of}

@@ -1,11 +1,11 @@
-use Rattle.std.proofs.Common.{◌≡◌, ◌+◌, refl, ap, sym, ◌∙◌, arith}
-use Rattle.std.specs.Prelude.{slice_get, slice_index_or, Some}
+use Rattle.std.proofs.Common.{◌≡◌, ◌+◌, ap, sym, ◌∙◌, arith}
+use Rattle.std.specs.Prelude.{slice_index_or}
 use Rattle.std.proofs.lemmas.Option.{slice_get-get_or}
 use Rattle.graph_search.specs.declared.exploring.ReachedVertex.{ReachedVertex}
 use Rattle.graph_search.proofs.ReachedLists.{get-one}
 use Rattle.mesh_types.specs.WholeMesh.{poly_at}
 use Rattle.corridor_search.specs.Estimates.{extent_at}
-use Rattle.corridor_search.specs.MeshGraphs.{IsThere, polygon_of}
+use Rattle.corridor_search.specs.MeshGraphs.{polygon_of}
 use Rattle.corridor_search.proofs.Extents.{extent-is, extent-rules}
 use Rattle.corridor_search.proofs.Sound.{polygon-rules}
 use Rattle.path_queries.proofs.FloodLoops.{no_entry}

@@ -1,0 +1,3 @@
+mod StoreyFloors
+mod CornerLaws
+mod WayLaws

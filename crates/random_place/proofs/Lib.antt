@@ -1,0 +1,5 @@
+mod Numbered
+mod CountLaws
+mod SpotLaws
+mod NumberLaws
+mod DrawLaws

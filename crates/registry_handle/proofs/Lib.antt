@@ -1,0 +1,4 @@
+mod Words
+mod Crossing
+pub mod Endings
+pub mod Solid

@@ -1,0 +1,4 @@
+pub mod Solids
+pub mod Rows
+pub mod Calls
+pub mod Updates

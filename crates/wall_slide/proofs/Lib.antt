@@ -1,0 +1,10 @@
+mod DiscLaws
+mod EndLaws
+mod FootLaws
+mod GatherLaws
+mod LeavingLinks
+mod Lefts
+mod LineParts
+mod Listed
+mod Readings
+mod RowLaws
