@@ -1,8 +1,8 @@
 #!/bin/sh
 # Times the further questions about ways, by the C library and beside a peer: q512 and q1024, levels of path_input.py, and each INPUT, a field text with a
 # script behind it, of which the path lines are read. Up to 500 pairs that paths join, and up to 100 that none joins. PEER is a command that takes such a
-# file and prints, as hosts/c/bench_ways.c does, the name of each measure and its nanoseconds. The two run in turn, three times; the least counts. Fails
-# where a measure takes more than its limit:
+# file and prints, as hosts/c/bench_ways.c does, the name of each measure and its nanoseconds; or bench/ways_peer.cpp, which is compiled then
+# (librecast-dev of the distribution is wanted). The two run in turn, three times; the least counts. Fails where a measure takes more than its limit:
 #   plan: a way through no filter, to navd_view_find_path [1.1]; the polygons that are closed at ten times all costs, to those at the costs [1.05]
 #   partial: a way to the nearest place, to the question that is answered by NAVD_NO_PATH [1.5]
 #   flood: 128 cells, to findPolysAroundCircle [1.0]
@@ -20,6 +20,10 @@ trap 'rm -rf "$work"' EXIT
 lib=${NAVD_ARCHIVE:-$here/crates/nav_ffi/out/libnav_ffi.a}
 [ -n "${NAVD_ARCHIVE:-}" ] || (cd "$here/crates/nav_ffi" && rt lib > "$work/build.log" 2>&1) || { cat "$work/build.log"; exit 1; }
 make -s -C "$here/hosts/c" LIB="$lib" TO="$work" "$work/bench_ways"
+case $peer in *.cpp)
+    c++ -O2 -std=c++17 -I/usr/include/recastnavigation "$peer" -o "$work/peer" -lDetourCrowd -lDetourTileCache -lDetour -lRecast
+    peer=$work/peer ;;
+esac
 
 # compare NAME INPUT: the two programs in turn, and what their least times come to
 compare() {

@@ -5,16 +5,18 @@
 #
 # The host in C plays each example plainly, with the compiler's checks of addresses and undefined behaviour, and, on one example, with each
 # allocation refused in turn; random calls, valid and not, follow, threads that ask views beside one that changes the level, and walkers that keep
-# their paths while doors open and close. The host in Python plays them through a shared object, and the one in Rust runs its test, where there is
-# cargo.
+# their paths while doors open and close, and doors that are moved and switched by their ids. The host in Python plays them through a shared object,
+# and the one in Rust runs its test, where there is cargo.
 # The hosts in C++, built by g++ for C++17 with these checks and by clang++ for C++20, and in C#, by Mono, play all inputs, asked of the
 # level and of a view; what no script asks for they have to tell alike. Each is skipped with a line where its compiler is not there.
+# Over the thin layer in metres, with these checks too, a game's loop writes what it wrote, what is refused is tried, and doors turn beside threads
+# that ask. Python tells which cases of a level do not hold.
 set -eu
 here=$(cd "$(dirname "$0")" && pwd)
 lib=$(realpath "${1:-$here/../crates/nav_ffi/out/libnav_ffi.a}")
 to=$(mktemp -d)
 trap 'rm -rf "$to"' EXIT
-make -s -C "$here/c" LIB="$lib" TO="$to" "$to/play" "$to/checked" "$to/calls" "$to/readers" "$to/readers_checked" "$to/doors" "$to/libnavd.so"
+make -s -C "$here/c" LIB="$lib" TO="$to" "$to/play" "$to/checked" "$to/calls" "$to/readers" "$to/readers_checked" "$to/doors" "$to/registry" "$to/libnavd.so"
 count=0
 for out in "$here"/../examples/*.out; do
     input=${out%.out}.nav
@@ -39,9 +41,34 @@ echo "played $count times alike, and $((refused - 1)) times with an allocation r
 "$to/readers" "$here/../examples/storeroom.nav" 2000
 "$to/readers_checked" "$here/../examples/storeroom.nav" 2000
 "$to/doors" 60
+"$to/registry" 2000
 if command -v cargo > "$to/cargo"; then
     NAVD_LIBRARY_DIR=$(dirname "$lib") cargo test --quiet --offline --manifest-path "$here/rust/Cargo.toml" --target-dir "$to/target"
 fi
+
+# world NAME FILE..: builds a program of hosts/world with the thin layer.
+world() {
+    name=$1
+    shift
+    ${CC:-cc} -std=c11 -Wall -Wextra -Wpedantic -Werror -g -fsanitize=address,undefined -fno-sanitize-recover=all -I"$here/../include" \
+        -o "$to/world_$name" "$here/world/$name.c" "$here/world/navd_world.c" "$@" "$lib" -lm -pthread
+}
+
+if nm "$lib" 2> "$to/errors" | grep -q ' T navd_registry_update$'; then
+    world doors "$here/c/heap.c"
+    "$to/world_doors" > "$to/told"
+    cmp "$to/told" "$here/world/doors.out" || { echo "differs: hosts/world/doors"; exit 1; }
+    world refusals
+    "$to/world_refusals"
+    world turning
+    "$to/world_turning" 500
+else
+    echo "skipped, the library has no registry: hosts/world"
+fi
+
+python3 "$here/../examples/building.py" > "$to/house.obj"
+NAVD_LIBRARY=$to/libnavd.so python3 -B "$here/python/navd_check.py" "$to/house.obj" "$here/python/house.cases" > "$to/told" || [ $? = 8 ]
+cmp "$to/told" "$here/python/house.checked" || { echo "differs: hosts/python/navd_check.py"; exit 1; }
 
 # wants WHAT TOOL..: the tools are there; else it says what is skipped.
 wants() {

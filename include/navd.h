@@ -73,12 +73,13 @@ extern "C" {
 #define NAVD_NO_ROOM 14u      /* there is too little room for what is told; nothing was done */
 #define NAVD_STALE 15u        /* the build is wanted no more; it was let go */
 #define NAVD_FOREIGN 16u      /* the job is of a ground that is another there; nothing was done */
-#define NAVD_BUSY 17u         /* the job's handle holds a job; nothing was done */
+#define NAVD_BUSY 17u         /* the job's handle holds a job, or obstacles of the level are alive; nothing was done */
 #define NAVD_TOO_MANY_SPANS 18u /* the triangles give more than 2000000 spans, the most that a field can have */
 #define NAVD_PARTIAL 19u        /* no way leads to the goal, or none within the limits; the way to the nearest place was found */
 #define NAVD_LIMIT 20u          /* a limit ended the search: a way there, if there is one, costs no less than `seen` */
-#define NAVD_CUT 21u            /* the kept path leads on in part */
+#define NAVD_CUT 21u            /* the kept path leads on in part; no polygon holds the middle of the cell that was drawn */
 #define NAVD_NO_PLACE 22u       /* no place is in reach, or the place is none of the mesh */
+#define NAVD_NO_OBSTACLE 24u    /* no obstacle has the id; nothing was done */
 
 /* A handle of a level. Zeroed, it holds nothing: navd_level level = {0}; */
 typedef struct {
@@ -97,6 +98,12 @@ typedef struct {
     void *at;
     uint32_t full;
 } navd_job;
+
+/* A handle of a registry: a level whose obstacles have ids that stay. Zeroed, it holds nothing. */
+typedef struct {
+    void *at;
+    uint32_t full;
+} navd_registry;
 
 /* A point, in sixteenths of a cell. */
 typedef struct {
@@ -174,6 +181,30 @@ typedef struct {
     int32_t x, z;
     uint32_t r, y0, y1;
 } navd_disc;
+
+/* An obstacle of a registry as a solid: its kind, a block (0), a cylinder (1), a prism (2) or a disc (3), the area that it gives, 1 to 63, or 0 where it
+ * stops agents, and its numbers. The numbers of what it is not are not read, and are told as 0. */
+typedef struct {
+    uint32_t kind, area;
+    navd_block block;
+    navd_cylinder cylinder;
+    navd_prism prism;
+    navd_disc disc;
+} navd_solid;
+
+/* An obstacle of a registry: its id, from 1, the host's own number, whether it is switched on (1) or off (0), and what it is. */
+typedef struct {
+    uint64_t id, user;
+    uint32_t enabled;
+    navd_solid solid;
+} navd_row;
+
+/* What an update did: how many tiles it built, whether something new is shown (1) or not (0), whether some of what was asked for is not shown yet (1)
+ * or all of it is (0), and the version, which is how often something new was shown. */
+typedef struct {
+    uint32_t built, published, pending;
+    uint64_t version;
+} navd_updated;
 
 /* From where to where: points from -65536 to 65536, each with a height that says in which storey; a ray has no height at its end. */
 typedef struct {
@@ -533,6 +564,55 @@ uint32_t navd_put_back_all(navd_level *level);
 /* Closes the job, if the handle holds one; the handle holds nothing then, and the tile stays claimed. */
 void navd_job_close(navd_job *job);
 
+/* == A registry: obstacles by ids that stay ==
+ * A registry is a level with a row for each of its obstacles. An obstacle keeps its id when it is moved, switched off and on, and an id is given once. A
+ * call makes the entries of the level's history that it takes: a switch one, a move two, which are aimed at together, so that no version shows half of
+ * it. What is refused makes none. What is shown changes in navd_registry_update alone. */
+
+/* Begins the registry of a level without obstacles, with the version 0: the level goes over into it, and the level's handle holds nothing then. A registry
+ * that the handle held is closed then.
+ * NAVD_OK. NAVD_EMPTY: the level's handle holds none. NAVD_BUSY: obstacles of the level are alive. NAVD_NO_MEMORY. In these three nothing was done. */
+uint32_t navd_registry_begin(navd_registry *registry, navd_level *level);
+
+/* Closes the registry with its level, if the handle holds one; the handle holds nothing then. Views and jobs of it stay good. */
+void navd_registry_close(navd_registry *registry);
+
+/* Adds an obstacle, which is on, with a number of the host's own that means nothing here; its id is left at `id`, which is one more than the last.
+ * NAVD_OK. NAVD_OUT_OF_RANGE: before all others. NAVD_EMPTY. NAVD_TOO_MANY: as many obstacles are on as the field text's limit says, there are 65536, or
+ * 2^64 - 1 ids were given. NAVD_HISTORY_FULL: the history may not have two entries more. NAVD_NO_MEMORY. */
+uint32_t navd_registry_add(navd_registry *registry, const navd_solid *solid, uint64_t user, uint64_t *id);
+
+/* Gives an obstacle, on or off, another shape.
+ * NAVD_OK. NAVD_OUT_OF_RANGE: before all others. NAVD_EMPTY. NAVD_NO_OBSTACLE. NAVD_HISTORY_FULL: it is on, and the history may not have two more. */
+uint32_t navd_registry_move(navd_registry *registry, uint64_t id, const navd_solid *solid);
+
+/* Switches an obstacle on, or off where `enabled` is 0.
+ * NAVD_OK. NAVD_EMPTY. NAVD_NO_OBSTACLE. NAVD_SAME: it was so before. NAVD_TOO_MANY: as many are on as the field text's limit says. NAVD_HISTORY_FULL. */
+uint32_t navd_registry_enable(navd_registry *registry, uint64_t id, uint32_t enabled);
+
+/* Gives an obstacle another number of the host's own.
+ * NAVD_OK. NAVD_EMPTY. NAVD_NO_OBSTACLE. */
+uint32_t navd_registry_mark(navd_registry *registry, uint64_t id, uint64_t user);
+
+/* Removes an obstacle; its id is not given again.
+ * NAVD_OK. NAVD_EMPTY. NAVD_NO_OBSTACLE. NAVD_HISTORY_FULL: it is on, and the history may not have two more. */
+uint32_t navd_registry_remove(navd_registry *registry, uint64_t id);
+
+/* The obstacles, by rising ids; how many there are is left at `count`.
+ * NAVD_OK. NAVD_EMPTY. */
+uint32_t navd_registry_rows(navd_registry *registry, navd_row *rows, size_t room, size_t *count);
+
+/* Aims at all that was asked for, unless what was aimed at before is not shown yet; builds at most so many tiles; and shows it, once none is awaited. So
+ * each update of a game's frame ends soon, and what was aimed at comes to be shown. Where all of the history is shown then and it has 131072 entries,
+ * it begins again by itself, as navd_renew does: ids, rows, the version and what is shown stay.
+ * NAVD_OK. NAVD_EMPTY. NAVD_TOO_MANY: 2^64 - 1 versions were shown; nothing was done. NAVD_NO_MEMORY: some of the tiles were built; the obstacles, the
+ * version and what is shown are as they were, and another update builds on from there. */
+uint32_t navd_registry_update(navd_registry *registry, uint32_t most, navd_updated *updated);
+
+/* Brings a view up to what the registry shows, as navd_look does; the version is left at `version`.
+ * NAVD_OK. NAVD_EMPTY: the registry's handle holds none. NAVD_NO_MEMORY: the view shows what it showed. */
+uint32_t navd_registry_look(navd_view *view, navd_registry *registry, uint64_t *version);
+
 /* == Questions, which are answered from what is published ==
  * They change nothing. */
 
@@ -706,6 +786,13 @@ uint32_t navd_view_height(navd_view *view, navd_place *place);
 /* Whether it is a place of what the view shows.
  * NAVD_OK: it is. NAVD_NO_PLACE. NAVD_OUT_OF_RANGE: before all others. NAVD_EMPTY. NAVD_NO_MEMORY. */
 uint32_t navd_view_is_place(navd_view *view, const navd_place *place);
+
+/* The place that a number draws: the middle of a cell whose area is allowed, bit a for area a (UINT64_MAX: all areas), on its floor, in the first polygon
+ * of those that were made of the cell and hold its middle. Of n cells it is the one with the number draw * n / 2^64, rounded down, tile by tile: numbers
+ * that are as likely as each other make the cells so. It is a place of what the view shows.
+ * NAVD_OK. NAVD_CUT: no polygon holds the middle; another number is to be drawn. NAVD_NO_PLACE: no cell has an allowed area. NAVD_EMPTY.
+ * NAVD_NO_MEMORY. */
+uint32_t navd_view_random_place(navd_view *view, uint64_t areas, uint64_t draw, navd_place *place);
 
 #ifdef __cplusplus
 }

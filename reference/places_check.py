@@ -1,9 +1,9 @@
 #!/usr/bin/env python3
-"""Checks what the library answers about places: the nearest, heights, and whether a place is one of the mesh. Levels are small and random: two
-storeys, holes, steps, ramps up to the upper storey, areas, both kinds of meshes, several errors, with and without clearance, before and after
-obstacles came. The mesh, and which cells each polygon stands for, is worked out by `play_check.py` from the level's text and its obstacles, and
-has to be that which the library shows. Answers are found by trying: each whole point over each cell of each polygon for the nearest place, each
-cell of a polygon for a height. Of places that are equally near the first by the rule of the header is wanted.
+"""Checks what the library answers about places: the nearest, heights, whether a place is one of the mesh, and random places. Levels are small and
+random: two storeys, holes, steps, ramps up to the upper storey, areas, both kinds of meshes, several errors, with and without clearance, before and
+after obstacles came. The mesh, and which cells each polygon stands for, is worked out by `play_check.py` from the level's text and its obstacles,
+and has to be that which the library shows. Answers are found by trying: each whole point over each cell of each polygon for the nearest place, each
+cell of a polygon for a height, the list of all cells for a draw. Of places that are equally near the first by the rule of the header is wanted.
 
 usage: reference/places_check.py LIBRARY [LEVELS [SEED]]     (200 levels, seed 1; LIBRARY is what `make libnavd.so` of hosts/c makes)
 
@@ -110,6 +110,25 @@ class Ground:
     def is_place(self, name, point, floor):
         face = self.faces.get(name)
         return face is not None and face.holds(point) and floor in face.floors(point)
+
+    def cells_of(self, areas):
+        """The cells of some areas, tile by tile, storey by storey and row by row: the tile, the cells of the storey, and the cell."""
+        told, before = [], None
+        for (tile, _), face in self.faces.items():
+            storey = tile, face.cells
+            if storey != before and areas >> face.area & 1:
+                told += [(*storey, cell) for cell in sorted(face.cells, key=lambda cell: (cell[1], cell[0]))]
+            before = storey
+        return told
+
+    def drawn(self, cells, draw):
+        """The place that a number draws of some cells; None where there are none, CUT where no polygon of the storey holds the cell's middle."""
+        if not cells:
+            return None
+        tile, storey, (x, z, floor) = cells[draw * len(cells) // 2**64]
+        middle = 16 * x + 8, 16 * z + 8
+        over = [name for name, face in self.faces.items() if name[0] == tile and face.cells == storey and face.holds(middle)]
+        return (min(over), middle, floor) if over else navd.CUT
 
 
 # == Levels ==
@@ -291,6 +310,24 @@ class Asker:
             assert self.is_place(name, point, floor), f"the height in {name} at {point} makes no place"
             self.is_place(name, point, random.choice([0, max(0, floor - 1), floor + 1, random.randrange(30, 60), 2**32 - 1]))
 
+    def draw(self, areas, cells, draw):
+        told = self.view.random_place(draw, areas)
+        told = told if told == navd.CUT else told_of(told)
+        agree(f"the place of areas {areas} that {draw} draws", told, self.ground.drawn(cells, draw))
+        self.counts["random", "none" if told is None else "cut" if told == navd.CUT else "found"] += 1
+        if told not in (None, navd.CUT):
+            assert self.is_place(*told), f"{told} was drawn, and is no place"
+
+    def draws(self, count):
+        """The first and the last number that draws each cell, and random ones of random areas."""
+        cells = self.ground.cells_of(ALL)
+        for number in range(len(cells)):
+            self.draw(ALL, cells, -(-(number << 64) // len(cells)))
+            self.draw(ALL, cells, -(-(number + 1 << 64) // len(cells)) - 1)
+        for _ in range(count):
+            areas = random.choice([0, ALL & ~(1 << 63), 1 << 5 | 1 << 20, random.randrange(2**64)])
+            self.draw(areas, self.ground.cells_of(areas), random.choice([0, ALL, *[random.randrange(2**64)] * 4]))
+
     def all(self, count):
         """Random questions; the places that were told."""
         self.mesh()
@@ -301,6 +338,7 @@ class Asker:
         beside = [random.choice(face.beside) for face in self.ground.faces.values() if face.beside]
         for point in [random_point(self.ground) for _ in range(count // 2)] + beside:
             self.heights(point)
+        self.draws(count)
         return found
 
 

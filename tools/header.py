@@ -1,6 +1,6 @@
 #!/usr/bin/env python3
 """Compares the five places that say how a host calls the library, which people write by hand: include/navd.h, the exports and #[repr(C)]
-structs of the library (crates/nav_ffi, nav_handle, way_handle, place_handle, mesh_handle and world_grid), hosts/rust/src/sys.rs, hosts/python/navd.py and
+structs of the library (crates/nav_ffi, nav_handle, way_handle, place_handle, registry_handle, mesh_handle and world_grid), hosts/rust/src/sys.rs, hosts/python/navd.py and
 hosts/csharp/Navd.cs. The linker compares names alone. hosts/cpp/navd.hpp includes the header: of it each call and each status number is wanted, and its compiler
 compares the rest.
 
@@ -9,7 +9,7 @@ field, the same status numbers, and the same version, which the file VERSION has
 
   - a slice of the library is an address and a count, and the count has no name there; ghost fields and an allocator have no bytes
   - the library has no arrays in structs: fields called first, second and so on stand for one, which is called like its elements
-  - the hosts have one struct for the three handles; Python has no names of parameters, C# no arrays in structs, and neither has const
+  - the hosts have one struct for the four handles; Python has no names of parameters, C# no arrays in structs, and neither has const
 
 usage: tools/header.py --check [FOLDER]    of the repository in FOLDER, or of this one; ends with 1, and a line for each difference
 """
@@ -23,13 +23,13 @@ from unittest import mock
 
 HEADER, RUST, PYTHON = "include/navd.h", "hosts/rust/src/sys.rs", "hosts/python/navd.py"
 CSHARP, CPP, VERSION = "hosts/csharp/Navd.cs", "hosts/cpp/navd.hpp", "VERSION"
-LIBRARY = tuple(f"crates/{name}/src" for name in ("nav_ffi", "nav_handle", "way_handle", "place_handle", "mesh_handle", "world_grid"))
+LIBRARY = tuple(f"crates/{name}/src" for name in ("nav_ffi", "nav_handle", "way_handle", "place_handle", "registry_handle", "mesh_handle", "world_grid"))
 C_TYPES = {"uint8_t": "u8", "uint32_t": "u32", "int32_t": "i32", "uint64_t": "u64", "int64_t": "i64", "size_t": "usize", "float": "f32",
            "void": "nothing"}
 CSHARP_TYPES = {"byte": "u8", "uint": "u32", "int": "i32", "ulong": "u64", "long": "i64", "UIntPtr": "usize", "float": "f32", "IntPtr": "pointer",
                 "void": "nothing", "Status": "u32"}
 ORDINALS = ("first", "second", "third", "fourth", "fifth", "sixth", "seventh", "eighth", "")
-HANDLES = ("level", "view", "job")
+HANDLES = ("level", "view", "job", "registry")
 # Numbers by name; fields by struct and parameters by call, each a name, or None where the place has none, and a type; what each call gives back.
 Border = namedtuple("Border", "place numbers structs calls results")
 

@@ -398,7 +398,7 @@ static void of_goals(void) {
     if (status != NAVD_OK || plan.links > 4096 || plan.turns > 64) plan = (navd_plan){.way = way}, way = (navd_way){{0, 0}, 0, {0, 0}, 0};
 }
 
-/* The nearest place, the height at a point of a polygon, and whether a place is one of what may be another mesh by now. */
+/* The nearest place, the height at a point of a polygon, whether a place is one of what may be another mesh by now, and a random place. */
 static void of_places(void) {
     static navd_place kept;
     uint64_t areas = pick(3) ? UINT64_MAX : ~(UINT64_C(1) << pick(64));
@@ -428,6 +428,13 @@ static void of_places(void) {
     made_by[status]++;
     if ((status == NAVD_OK) != (floor.y != 8192)) ENDS(floor.y, "a height", 8192);
     ENDS(navd_view_is_place(&view, &floor), "the place of a height", status);
+    place = (navd_place){.y = 8192};
+    status = navd_view_random_place(&view, areas, pick(9) ? (uint64_t)pick(UINT32_MAX) << 32 | pick(UINT32_MAX) : UINT64_MAX, &place);
+    ENDS(status, "navd_view_random_place", NAVD_OK, NAVD_CUT, NAVD_NO_PLACE);
+    made_by[status]++;
+    if (status == NAVD_OK) ENDS(navd_view_is_place(&view, &place), "the place that is drawn", NAVD_OK);
+    else if (place.y != 8192) ENDS(place.y, "a place that is not drawn", 8192);
+    ENDS(navd_view_random_place(&view, 0, 0, &place), "navd_view_random_place of no area", NAVD_NO_PLACE);
 }
 
 /* Now and then both histories begin again. */
@@ -579,6 +586,7 @@ static void of_empty(void) {
     ENDS(navd_view_nearest(&empty_view, &near, &on_mesh), "an empty handle", NAVD_EMPTY);
     ENDS(navd_view_height(&empty_view, &on_mesh), "an empty handle", NAVD_EMPTY);
     ENDS(navd_view_is_place(&empty_view, &on_mesh), "an empty handle", NAVD_EMPTY);
+    ENDS(navd_view_random_place(&empty_view, UINT64_MAX, 0, &on_mesh), "an empty handle", NAVD_EMPTY);
     if (navd_version() != NAVD_VERSION) ENDS(1, "the version", 0);
     if (told != 7 || count != 7) ENDS(told, "what an empty handle told", 7);
 }

@@ -71,6 +71,7 @@ enum class [[nodiscard]] Status : uint32_t {
     no_start = NAVD_NO_START, no_goal = NAVD_NO_GOAL, no_path = NAVD_NO_PATH, wall = NAVD_WALL, no_room = NAVD_NO_ROOM,
     stale = NAVD_STALE, foreign = NAVD_FOREIGN, busy = NAVD_BUSY, too_many_spans = NAVD_TOO_MANY_SPANS,
     partial = NAVD_PARTIAL, limit = NAVD_LIMIT, cut = NAVD_CUT, no_place = NAVD_NO_PLACE,
+    no_obstacle = NAVD_NO_OBSTACLE,
 };
 
 // Whether the library has the version of the header: one that is loaded while the program runs may have another.
@@ -381,9 +382,26 @@ private:
     static const uint8_t *bytes(std::string_view text) noexcept { return reinterpret_cast<const uint8_t *>(detail::address(text.data())); }
 };
 
+// A level with a row for each of its obstacles, whose id stays. What is shown changes in `update` alone.
+class Registry : public detail::Owner<navd_registry, navd_registry_close> {
+public:
+    // The level goes over into it, and holds nothing then.
+    Status begin(Level &level) noexcept { return Status{navd_registry_begin(&handle, level.get())}; }
+    Status add(const navd_solid &solid, uint64_t user, uint64_t &id) noexcept { return Status{navd_registry_add(&handle, &solid, user, &id)}; }
+    Status move(uint64_t id, const navd_solid &solid) noexcept { return Status{navd_registry_move(&handle, id, &solid)}; }
+    Status enable(uint64_t id, bool enabled) noexcept { return Status{navd_registry_enable(&handle, id, enabled)}; }
+    Status mark(uint64_t id, uint64_t user) noexcept { return Status{navd_registry_mark(&handle, id, user)}; }
+    Status remove(uint64_t id) noexcept { return Status{navd_registry_remove(&handle, id)}; }
+    Status rows(std::vector<navd_row> &rows) {
+        return detail::all(rows, [&](navd_row *to, size_t *count) { return navd_registry_rows(&handle, to, *count, count); });
+    }
+    Status update(uint32_t most, navd_updated &updated) noexcept { return Status{navd_registry_update(&handle, most, &updated)}; }
+};
+
 class View : public detail::Asked<navd_view, navd_view_close, detail::ViewCalls> {
 public:
     Status look(Level &level, uint32_t &published) noexcept { return Status{navd_look(&handle, level.get(), &published)}; }
+    Status look(Registry &registry, uint64_t &version) noexcept { return Status{navd_registry_look(&handle, registry.get(), &version)}; }
     Status set_costs(Array<uint32_t> costs) noexcept {
         return Status{navd_view_set_costs(&handle, detail::address(costs.data()), costs.size())};
     }
@@ -497,6 +515,11 @@ public:
     Status height(navd_place &place) noexcept { return Status{navd_view_height(&handle, &place)}; }
     // Whether it is a place of what the view shows: Status::ok or Status::no_place.
     Status is_place(const navd_place &place) noexcept { return Status{navd_view_is_place(&handle, &place)}; }
+    // The place that a number draws. After Status::cut another number is to be drawn, after Status::no_place no cell has one of the areas, and after both
+    // `place` is as it was.
+    Status random_place(uint64_t areas, uint64_t draw, navd_place &place) noexcept {
+        return Status{navd_view_random_place(&handle, areas, draw, &place)};
+    }
 
 private:
     Status planned(navd_plan &told, const Filter &filter, Limits &limits, Path &path) {

@@ -50,7 +50,8 @@ namespace Navd
         Partial = 19,
         Limit = 20,
         Cut = 21,
-        NoPlace = 22
+        NoPlace = 22,
+        NoObstacle = 24
     }
 
     // == The structs of include/navd.h, field for field ==
@@ -208,6 +209,35 @@ namespace Navd
         public uint Number, Area, Kind;
         public Block Block;
         public Cylinder Cylinder;
+    }
+
+    /// <summary>An obstacle of a registry: a block (Kind 0), a cylinder (1), a prism (2) or a disc (3), with the area that it gives, or 0 where it stops
+    /// agents. The numbers of what it is not are not read, and are told as 0.</summary>
+    [StructLayout(LayoutKind.Sequential)]
+    public struct Solid
+    {
+        public uint Kind, Area;
+        public Block Block;
+        public Cylinder Cylinder;
+        public Prism Prism;
+        public Disc Disc;
+    }
+
+    /// <summary>An obstacle of a registry: its id, the host's own number, whether it is on (1) or off (0), and what it is.</summary>
+    [StructLayout(LayoutKind.Sequential)]
+    public struct Row
+    {
+        public ulong Id, User;
+        public uint Enabled;
+        public Solid Solid;
+    }
+
+    /// <summary>How many tiles an update built, whether something new is shown, whether some of what was asked for is not shown yet, and the version.</summary>
+    [StructLayout(LayoutKind.Sequential)]
+    public struct Updated
+    {
+        public uint Built, Published, Pending;
+        public ulong Version;
     }
 
     /// <summary>A one-way jump, and what it costs.</summary>
@@ -466,6 +496,26 @@ namespace Navd
         [DllImport(Library)]
         internal static extern void navd_job_close(IntPtr job);
         [DllImport(Library)]
+        internal static extern Status navd_registry_begin(RegistryHandle registry, LevelHandle level);
+        [DllImport(Library)]
+        internal static extern void navd_registry_close(IntPtr registry);
+        [DllImport(Library)]
+        internal static extern Status navd_registry_add(RegistryHandle registry, ref Solid solid, ulong user, out ulong id);
+        [DllImport(Library)]
+        internal static extern Status navd_registry_move(RegistryHandle registry, ulong id, ref Solid solid);
+        [DllImport(Library)]
+        internal static extern Status navd_registry_enable(RegistryHandle registry, ulong id, uint enabled);
+        [DllImport(Library)]
+        internal static extern Status navd_registry_mark(RegistryHandle registry, ulong id, ulong user);
+        [DllImport(Library)]
+        internal static extern Status navd_registry_remove(RegistryHandle registry, ulong id);
+        [DllImport(Library)]
+        internal static extern Status navd_registry_rows(RegistryHandle registry, [Out] Row[] rows, UIntPtr room, out UIntPtr count);
+        [DllImport(Library)]
+        internal static extern Status navd_registry_update(RegistryHandle registry, uint most, out Updated updated);
+        [DllImport(Library)]
+        internal static extern Status navd_registry_look(ViewHandle view, RegistryHandle registry, out ulong version);
+        [DllImport(Library)]
         internal static extern Status navd_floors(LevelHandle level, uint x, uint z, [Out] Floor[] floors, UIntPtr room, out UIntPtr count);
         [DllImport(Library)]
         internal static extern Status navd_prepare(LevelHandle level);
@@ -550,6 +600,8 @@ namespace Navd
         internal static extern Status navd_view_height(ViewHandle view, ref Place place);
         [DllImport(Library)]
         internal static extern Status navd_view_is_place(ViewHandle view, ref Place place);
+        [DllImport(Library)]
+        internal static extern Status navd_view_random_place(ViewHandle view, ulong areas, ulong draw, ref Place place);
     }
 
     /// <summary>The version, as major * 10000 + minor * 100 + patch: of this file, and of the library.</summary>
@@ -609,6 +661,15 @@ namespace Navd
         protected override bool ReleaseHandle()
         {
             Native.navd_job_close(handle);
+            return Freed();
+        }
+    }
+
+    internal sealed class RegistryHandle : Owned
+    {
+        protected override bool ReleaseHandle()
+        {
+            Native.navd_registry_close(handle);
             return Freed();
         }
     }
@@ -1003,6 +1064,11 @@ namespace Navd
             return Native.navd_look(view, level.level, out published);
         }
 
+        public Status LookAt(Registry registry, out ulong version)
+        {
+            return Native.navd_registry_look(view, registry.registry, out version);
+        }
+
         public Status SetCosts(uint[] costs)
         {
             uint[] items = Given.Items(costs, "costs");
@@ -1168,9 +1234,74 @@ namespace Navd
             return Native.navd_view_is_place(view, ref place);
         }
 
+        /// <summary>The place that a number draws. After Status.Cut another number is to be drawn, after Status.NoPlace no cell has one of the areas,
+        /// and after both the place is as it was.</summary>
+        public Status RandomPlace(ulong areas, ulong draw, ref Place place)
+        {
+            return Native.navd_view_random_place(view, areas, draw, ref place);
+        }
+
         public Status Count(out Shown shown)
         {
             return Native.navd_view_count(view, out shown);
+        }
+    }
+
+    /// <summary>A level with a row for each of its obstacles, whose id stays. What is shown changes in Update alone.</summary>
+    public sealed class Registry : IDisposable
+    {
+        internal readonly RegistryHandle registry = new RegistryHandle();
+
+        /// <summary>The level goes over into it, and holds nothing then. Status.Busy: it has obstacles.</summary>
+        public Status Begin(Level level)
+        {
+            return Native.navd_registry_begin(registry, level.level);
+        }
+
+        public Status Add(Solid solid, ulong user, out ulong id)
+        {
+            return Native.navd_registry_add(registry, ref solid, user, out id);
+        }
+
+        public Status Move(ulong id, Solid solid)
+        {
+            return Native.navd_registry_move(registry, id, ref solid);
+        }
+
+        public Status Enable(ulong id, bool enabled)
+        {
+            return Native.navd_registry_enable(registry, id, enabled ? 1u : 0u);
+        }
+
+        public Status Mark(ulong id, ulong user)
+        {
+            return Native.navd_registry_mark(registry, id, user);
+        }
+
+        public Status Remove(ulong id)
+        {
+            return Native.navd_registry_remove(registry, id);
+        }
+
+        public Status Rows(Room<Row> rows)
+        {
+            Status status;
+            UIntPtr count;
+            do
+            {
+                status = Native.navd_registry_rows(registry, rows.Items, rows.Length, out count);
+            } while (!rows.Takes(status == Status.Ok, count));
+            return status;
+        }
+
+        public Status Update(uint most, out Updated updated)
+        {
+            return Native.navd_registry_update(registry, most, out updated);
+        }
+
+        public void Dispose()
+        {
+            registry.Dispose();
         }
     }
 

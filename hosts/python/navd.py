@@ -19,13 +19,15 @@ from pathlib import Path
 
 OK, NO_MEMORY, EMPTY, FAULTY, OUT_OF_RANGE, TOO_MANY, DEAD, HISTORY_FULL, NOT_YET, SAME, NO_START, NO_GOAL, NO_PATH, WALL, NO_ROOM, \
     STALE, FOREIGN, BUSY, TOO_MANY_SPANS, PARTIAL, LIMIT, CUT, NO_PLACE = range(23)
+NO_OBSTACLE = 24
 
 # The version of the library that this file was written for, as major * 10000 + minor * 100 + patch.
 VERSION = 100
 
 NAMES = ("ok", "no memory", "empty handle", "faulty text", "number out of range", "too many obstacles", "no such obstacle", "history full",
          "a tile is awaited", "same as before", "no start", "no goal", "no path", "wall", "no room", "the build is wanted no more",
-         "the job is of another ground", "the handle holds a job", "too many spans", "a way to the nearest place", "limit", "cut", "no place")
+         "the job is of another ground", "the handle holds a job", "too many spans", "a way to the nearest place", "limit", "cut", "no place",
+         "unknown", "no obstacle with this id")
 
 # All areas, as a filter's.
 all_areas = 2**64 - 1
@@ -61,6 +63,18 @@ class _Prism(Structure):
 
 class _Disc(Structure):
     _fields_ = [("x", c_int32), ("z", c_int32), ("r", c_uint32), ("y0", c_uint32), ("y1", c_uint32)]
+
+
+class _Solid(Structure):
+    _fields_ = [("kind", c_uint32), ("area", c_uint32), ("block", _Block), ("cylinder", _Cylinder), ("prism", _Prism), ("disc", _Disc)]
+
+
+class _Row(Structure):
+    _fields_ = [("id", c_uint64), ("user", c_uint64), ("enabled", c_uint32), ("solid", _Solid)]
+
+
+class _Updated(Structure):
+    _fields_ = [("built", c_uint32), ("published", c_uint32), ("pending", c_uint32), ("version", c_uint64)]
 
 
 class _WorldPoint(Structure):
@@ -338,6 +352,26 @@ class Obstacle:
 
 
 @dataclass(frozen=True)
+class Row:
+    """An obstacle of a Registry: its id, the host's own number, whether it is switched on, the area that it gives, or 0 where it stops agents, and a Block,
+    Cylinder, Prism or Disc."""
+    id: int
+    user: int
+    enabled: bool
+    area: int
+    shape: Block | Cylinder | Prism | Disc
+
+
+@dataclass(frozen=True)
+class Updated:
+    """How many tiles an update built, whether something new is shown, whether some of what was asked for is not shown yet, and the version."""
+    built: int
+    published: bool
+    pending: bool
+    version: int
+
+
+@dataclass(frozen=True)
 class Jump:
     """A one-way jump and what it costs."""
     start: Place
@@ -474,6 +508,15 @@ def _library():
         "navd_submit": [handle, handle],
         "navd_put_back": [handle, handle],
         "navd_put_back_all": [handle],
+        "navd_registry_begin": [handle, handle],
+        "navd_registry_add": [handle, POINTER(_Solid), c_uint64, POINTER(c_uint64)],
+        "navd_registry_move": [handle, c_uint64, POINTER(_Solid)],
+        "navd_registry_enable": [handle, c_uint64, c_uint32],
+        "navd_registry_mark": [handle, c_uint64, c_uint64],
+        "navd_registry_remove": [handle, c_uint64],
+        "navd_registry_rows": [handle, POINTER(_Row), c_size_t, count],
+        "navd_registry_update": [handle, c_uint32, POINTER(_Updated)],
+        "navd_registry_look": [handle, handle, POINTER(c_uint64)],
         "navd_prepare": [handle],
         "navd_add_block": [handle, POINTER(_Block), c_uint32, number],
         "navd_add_cylinder": [handle, POINTER(_Cylinder), c_uint32, number],
@@ -502,10 +545,11 @@ def _library():
         "navd_view_nearest": [handle, POINTER(_Near), POINTER(_Place)],
         "navd_view_height": [handle, POINTER(_Place)],
         "navd_view_is_place": [handle, POINTER(_Place)],
+        "navd_view_random_place": [handle, c_uint64, c_uint64, POINTER(_Place)],
     }.items():
         call = getattr(found, name)
         call.argtypes, call.restype = words, c_uint32
-    for call in (found.navd_close, found.navd_view_close, found.navd_job_close):
+    for call in (found.navd_close, found.navd_view_close, found.navd_job_close, found.navd_registry_close):
         call.argtypes, call.restype = [handle], None
     return found
 
@@ -529,6 +573,32 @@ def _shape(it):
     if it.kind == 1:
         return Cylinder(it.cylinder.cx, it.cylinder.cz, it.cylinder.r, (it.cylinder.y0, it.cylinder.y1))
     return "prism" if it.kind == 2 else "disc"
+
+
+def _told(shape):
+    """A Block, a Cylinder, a Prism or a Disc as the library has it."""
+    if isinstance(shape, Block):
+        return _Block(*shape.x, *shape.y, *shape.z)
+    if isinstance(shape, Cylinder):
+        return _Cylinder(shape.cx, shape.cz, shape.r, *shape.y)
+    if isinstance(shape, Disc):
+        return _Disc(shape.x, shape.z, shape.r, *shape.y)
+    if len(shape.corners) > 6:
+        raise NavdError(OUT_OF_RANGE)
+    return _Prism(len(shape.corners), (_Point * 6)(*shape.corners), *shape.y)
+
+
+def _solid(shape, area):
+    kind = (Block, Cylinder, Prism, Disc).index(type(shape))
+    return _Solid(kind, area, **{("block", "cylinder", "prism", "disc")[kind]: _told(shape)})
+
+
+def _solid_shape(it):
+    if it.kind < 2:
+        return _shape(it)
+    if it.kind == 2:
+        return Prism([_point(p) for p in it.prism.point[:it.prism.corners]], (it.prism.y0, it.prism.y1))
+    return Disc(it.disc.x, it.disc.z, it.disc.r, (it.disc.y0, it.disc.y1))
 
 
 def _link(it):
@@ -720,25 +790,19 @@ class Level(_Asked):
 
     def add_block(self, block, area=0):
         """The number of the obstacle."""
-        told = _Block(*block.x, *block.y, *block.z)
-        return self._number(self._calls.navd_add_block, byref(told), area)[1]
+        return self._number(self._calls.navd_add_block, byref(_told(block)), area)[1]
 
     def add_cylinder(self, cylinder, area=0):
         """The number of the obstacle."""
-        told = _Cylinder(cylinder.cx, cylinder.cz, cylinder.r, *cylinder.y)
-        return self._number(self._calls.navd_add_cylinder, byref(told), area)[1]
+        return self._number(self._calls.navd_add_cylinder, byref(_told(cylinder)), area)[1]
 
     def add_prism(self, prism, area=0):
         """The number of the obstacle."""
-        if len(prism.corners) > 6:
-            raise NavdError(OUT_OF_RANGE)
-        told = _Prism(len(prism.corners), (_Point * 6)(*prism.corners), *prism.y)
-        return self._number(self._calls.navd_add_prism, byref(told), area)[1]
+        return self._number(self._calls.navd_add_prism, byref(_told(prism)), area)[1]
 
     def add_disc(self, disc, area=0):
         """The number of the obstacle."""
-        told = _Disc(disc.x, disc.z, disc.r, *disc.y)
-        return self._number(self._calls.navd_add_disc, byref(told), area)[1]
+        return self._number(self._calls.navd_add_disc, byref(_told(disc)), area)[1]
 
     def remove(self, number):
         """The number of the entry."""
@@ -796,6 +860,60 @@ class Level(_Asked):
         return Counts(*(getattr(told, name) for name, _ in _Counts._fields_))
 
 
+class Registry:
+    """The level of a Level without obstacles, which holds nothing then, with a Row for each obstacle, whose id stays. What is shown changes in `update` alone.
+    It is used by one thread at a time."""
+
+    def __init__(self, level):
+        self._calls, self._handle = _library(), _Handle()
+        self._do("begin", byref(level._handle))
+
+    def __enter__(self):
+        return self
+
+    def __exit__(self, *_):
+        self.close()
+
+    def close(self):
+        self._calls.navd_registry_close(byref(self._handle))
+
+    def _do(self, name, *words, allowed=(OK,)):
+        status = getattr(self._calls, "navd_registry_" + name)(byref(self._handle), *words)
+        if status not in allowed:
+            raise NavdError(status)
+        return status
+
+    def add(self, shape, area=0, user=0):
+        """The id of the obstacle, which is on: a Block, a Cylinder, a Prism or a Disc."""
+        id = c_uint64()
+        self._do("add", byref(_solid(shape, area)), user, byref(id))
+        return id.value
+
+    def move(self, id, shape, area=0):
+        self._do("move", id, byref(_solid(shape, area)))
+
+    def enable(self, id, enabled=True):
+        """Whether it was not so before."""
+        return self._do("enable", id, enabled, allowed=(OK, SAME)) == OK
+
+    def mark(self, id, user):
+        self._do("mark", id, user)
+
+    def remove(self, id):
+        self._do("remove", id)
+
+    def rows(self):
+        """The Rows, by rising ids."""
+        found = _all(_Row, lambda *room: self._calls.navd_registry_rows(byref(self._handle), *room))
+        return [Row(it.id, it.user, bool(it.enabled), it.solid.area, _solid_shape(it.solid)) for it in found]
+
+    def update(self, most=2**32 - 1):
+        """Builds at most so many tiles, and shows what was asked for once all of it is built: what was Updated."""
+        told = _Updated()
+        self._do("update", most, byref(told))
+        return Updated(told.built, bool(told.published), bool(told.pending), told.version)
+
+
 class View(_Asked):
     """What one thread asks while another changes the level: the mesh as it was published at the last look."""
 
@@ -811,6 +929,14 @@ class View(_Asked):
         if status:
             raise NavdError(status)
         return published.value
+
+    def look_at(self, registry):
+        """Shows what the Registry shows now; its version. It is a call of both."""
+        version = c_uint64()
+        status = self._calls.navd_registry_look(byref(self._handle), byref(registry._handle), byref(version))
+        if status:
+            raise NavdError(status)
+        return version.value
 
     def set_costs(self, costs):
         """Has it answer with costs of its own, 64 numbers by area, from now on."""
@@ -941,6 +1067,15 @@ class View(_Asked):
     def is_place(self, place):
         """Whether a MeshPlace is one of the mesh that it shows."""
         return _is_there(self._calls.navd_view_is_place(byref(self._handle), byref(_place_of(place))))
+
+    def random_place(self, draw, areas=all_areas):
+        """The MeshPlace that a number below 2**64 draws; CUT where no polygon holds the middle of the cell that was drawn, and another number is to be
+        drawn; None where no cell has one of the areas."""
+        told = _Place()
+        status = self._calls.navd_view_random_place(byref(self._handle), areas, draw, byref(told))
+        if status == CUT:
+            return CUT
+        return MeshPlace(_polygon(told.polygon), Place(told.at.x, told.at.z, told.y)) if _is_there(status) else None
 
     def shown(self):
         """How many entries it shows, and how many tiles there are."""

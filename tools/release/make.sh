@@ -60,7 +60,7 @@ lay_shared() {
 # lay_static DIR TREE LIB UP: what hosts are built with. UP leads from the folder of the libraries to that above include/.
 lay_static() {
     mkdir -p "$2/$3/pkgconfig" "$2/$3/cmake/navd" "$2/$3/$4/include"
-    cp "$top/include/navd.h" "$top/hosts/cpp/navd.hpp" "$2/$3/$4/include"
+    cp "$top/include/navd.h" "$top/include/navd_world.h" "$top/hosts/cpp/navd.hpp" "$2/$3/$4/include"
     cp "$1/lib/libnavd.a" "$2/$3"
     ln -s "$soname" "$2/$3/libnavd.so"
     filled navd.pc.in "$2/$3/pkgconfig/navd.pc" "$4"

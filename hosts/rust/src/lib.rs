@@ -17,6 +17,7 @@ mod heap;
 mod jobs;
 mod looks;
 mod places;
+mod registry;
 mod repairs;
 mod sys;
 mod walks;
@@ -27,7 +28,8 @@ use std::ptr::null_mut;
 pub use goals::{Followed, Follower, Found, Nearest};
 pub use jobs::Job;
 pub use looks::{Obstacle, Shape};
-pub use places::{MeshPlace, Near};
+pub use places::{Drawn, MeshPlace, Near};
+pub use registry::{Registry, Row, Solid, Updated};
 pub use repairs::{Repair, Repaired};
 pub use sys::{
     Block, Corner, Counts, Cylinder, Disc, Face, Floor, Jump, Link, Point, Polygon, Prism, Reached, Shown, Turn,
@@ -63,6 +65,8 @@ pub enum Error {
     /// The job is of a ground that is another in its tile.
     Foreign,
     TooManySpans,
+    /// Obstacles of the level are alive.
+    HasObstacles,
 }
 
 impl fmt::Display for Error {
@@ -72,13 +76,14 @@ impl fmt::Display for Error {
             Error::Fault { line, kind } => write!(f, "fault of kind {kind} in line {line}"),
             Error::OutOfRange => write!(f, "a number is out of its limits"),
             Error::TooManyObstacles => write!(f, "as many obstacles are alive as may be"),
-            Error::NoSuchObstacle => write!(f, "no obstacle with this number is alive"),
+            Error::NoSuchObstacle => write!(f, "there is no such obstacle"),
             Error::HistoryFull => write!(f, "the history is full"),
             Error::NotYet { tile } => write!(f, "tile {tile} is still awaited"),
             Error::NotPublished => write!(f, "not all of the history is published"),
             Error::NotBuilt => write!(f, "the job is not built"),
             Error::Foreign => write!(f, "the job is of another ground"),
             Error::TooManySpans => write!(f, "the triangles give too many spans"),
+            Error::HasObstacles => write!(f, "obstacles of the level are alive"),
         }
     }
 }
@@ -90,7 +95,7 @@ fn error_of(status: u32) -> Error {
         sys::NO_MEMORY => Error::NoMemory,
         sys::OUT_OF_RANGE => Error::OutOfRange,
         sys::TOO_MANY => Error::TooManyObstacles,
-        sys::DEAD => Error::NoSuchObstacle,
+        sys::DEAD | sys::NO_OBSTACLE => Error::NoSuchObstacle,
         sys::HISTORY_FULL => Error::HistoryFull,
         sys::FOREIGN => Error::Foreign,
         sys::TOO_MANY_SPANS => Error::TooManySpans,

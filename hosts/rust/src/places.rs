@@ -27,6 +27,16 @@ impl Default for Near {
     }
 }
 
+/// What a number draws.
+#[derive(Clone, Copy, Debug, PartialEq, Eq)]
+pub enum Drawn {
+    Place(MeshPlace),
+    /// No polygon holds the middle of the cell that was drawn; another number is to be drawn.
+    Cut,
+    /// No cell has one of the areas.
+    Nowhere,
+}
+
 fn told(place: sys::Place) -> MeshPlace {
     MeshPlace { polygon: place.polygon, at: Place { at: place.at, y: place.y } }
 }
@@ -65,5 +75,15 @@ impl View {
     /// Whether a place is one of the mesh that the view shows.
     pub fn is_place(&mut self, place: MeshPlace) -> Result<bool, Error> {
         is_there(unsafe { sys::navd_view_is_place(&mut self.handle, &given(place)) })
+    }
+
+    /// The place that a number draws of the cells of some areas, bit a for area a: uniform, where the numbers are.
+    pub fn random_place(&mut self, areas: u64, draw: u64) -> Result<Drawn, Error> {
+        let mut place = sys::Place::default();
+        let status = unsafe { sys::navd_view_random_place(&mut self.handle, areas, draw, &mut place) };
+        if status == sys::CUT {
+            return Ok(Drawn::Cut);
+        }
+        Ok(if is_there(status)? { Drawn::Place(told(place)) } else { Drawn::Nowhere })
     }
 }

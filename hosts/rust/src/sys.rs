@@ -28,6 +28,7 @@ pub const PARTIAL: u32 = 19;
 pub const LIMIT: u32 = 20;
 pub const CUT: u32 = 21;
 pub const NO_PLACE: u32 = 22;
+pub const NO_OBSTACLE: u32 = 24;
 
 #[repr(C)]
 pub struct Handle {
@@ -43,7 +44,7 @@ pub struct Point {
 }
 
 #[repr(C)]
-#[derive(Clone, Copy)]
+#[derive(Clone, Copy, Default, Debug, PartialEq, Eq)]
 pub struct Block {
     pub x0: u32,
     pub x1: u32,
@@ -54,7 +55,7 @@ pub struct Block {
 }
 
 #[repr(C)]
-#[derive(Clone, Copy)]
+#[derive(Clone, Copy, Default, Debug, PartialEq, Eq)]
 pub struct Cylinder {
     pub cx: u32,
     pub cz: u32,
@@ -82,6 +83,36 @@ pub struct Disc {
     pub r: u32,
     pub y0: u32,
     pub y1: u32,
+}
+
+/// An obstacle of a registry: its kind, the area that it gives or 0, and its numbers; those of what it is not are not read.
+#[repr(C)]
+#[derive(Clone, Copy, Default)]
+pub struct Solid {
+    pub kind: u32,
+    pub area: u32,
+    pub block: Block,
+    pub cylinder: Cylinder,
+    pub prism: Prism,
+    pub disc: Disc,
+}
+
+#[repr(C)]
+#[derive(Clone, Copy, Default)]
+pub struct Row {
+    pub id: u64,
+    pub user: u64,
+    pub enabled: u32,
+    pub solid: Solid,
+}
+
+#[repr(C)]
+#[derive(Clone, Copy, Default)]
+pub struct Updated {
+    pub built: u32,
+    pub published: u32,
+    pub pending: u32,
+    pub version: u64,
 }
 
 #[repr(C)]
@@ -521,6 +552,16 @@ extern "C" {
     pub fn navd_put_back(level: *mut Handle, job: *mut Handle) -> u32;
     pub fn navd_put_back_all(level: *mut Handle) -> u32;
     pub fn navd_job_close(job: *mut Handle);
+    pub fn navd_registry_begin(registry: *mut Handle, level: *mut Handle) -> u32;
+    pub fn navd_registry_close(registry: *mut Handle);
+    pub fn navd_registry_add(registry: *mut Handle, solid: *const Solid, user: u64, id: *mut u64) -> u32;
+    pub fn navd_registry_move(registry: *mut Handle, id: u64, solid: *const Solid) -> u32;
+    pub fn navd_registry_enable(registry: *mut Handle, id: u64, enabled: u32) -> u32;
+    pub fn navd_registry_mark(registry: *mut Handle, id: u64, user: u64) -> u32;
+    pub fn navd_registry_remove(registry: *mut Handle, id: u64) -> u32;
+    pub fn navd_registry_rows(registry: *mut Handle, rows: *mut Row, room: usize, count: *mut usize) -> u32;
+    pub fn navd_registry_update(registry: *mut Handle, most: u32, updated: *mut Updated) -> u32;
+    pub fn navd_registry_look(view: *mut Handle, registry: *mut Handle, version: *mut u64) -> u32;
     pub fn navd_view_set_costs(view: *mut Handle, costs: *const u32, count: usize) -> u32;
     pub fn navd_view_count(view: *mut Handle, shown: *mut Shown) -> u32;
     pub fn navd_view_find_hop(
@@ -610,4 +651,5 @@ extern "C" {
     pub fn navd_view_nearest(view: *mut Handle, near: *const Near, place: *mut Place) -> u32;
     pub fn navd_view_height(view: *mut Handle, place: *mut Place) -> u32;
     pub fn navd_view_is_place(view: *mut Handle, place: *const Place) -> u32;
+    pub fn navd_view_random_place(view: *mut Handle, areas: u64, draw: u64, place: *mut Place) -> u32;
 }

@@ -1,7 +1,7 @@
 //! A level that is opened, changed, drawn and asked, with a crate across its room.
 use navd::{
-    place, version, Block, Checked, Disc, Error, Filter, Jump, Level, Limits, Near, NoWay, Planned, Point, Prism, Repair, Repaired,
-    Ray, Shape, VERSION, View,
+    place, version, Block, Checked, Disc, Drawn, Error, Filter, Jump, Level, Limits, Near, NoWay, Planned, Point, Prism, Ray, Registry,
+    Repair, Repaired, Row, Shape, Solid, VERSION, View,
 };
 use std::thread;
 
@@ -122,4 +122,34 @@ fn places_are_found() {
     assert!(0 <= aside.at.at.x && view.is_place(aside).unwrap());
     let above = navd::MeshPlace { at: place(40, 40, 11), ..under };
     assert!(!view.is_place(above).unwrap() && view.height(above).unwrap() == Some(under));
+    let Drawn::Place(drawn) = view.random_place(u64::MAX, 1 << 63).unwrap() else { panic!("none is drawn") };
+    assert!(view.is_place(drawn).unwrap());
+    assert_eq!(view.random_place(0, 1 << 63).unwrap(), Drawn::Nowhere);
+}
+
+#[test]
+fn obstacles_keep_their_ids() {
+    let mut registry = Registry::of(Level::open(TEXT).unwrap()).map_err(|(error, _)| error).unwrap();
+    let crate_ = Solid::Block(CRATE);
+    let id = registry.add(&crate_, 0, 7).unwrap();
+    let aside = Solid::Disc(Disc { x: 40, z: 40, r: 8, y0: 0, y1: 100 });
+    let other = registry.add(&aside, 5, 8).unwrap();
+    assert_eq!((id, other), (1, 2));
+    let told = registry.update(u32::MAX).unwrap();
+    assert!(told.published && !told.pending && told.version == 1);
+    registry.move_to(id, &aside, 0).unwrap();
+    assert!(registry.enable(other, false).unwrap() && !registry.enable(other, false).unwrap());
+    registry.mark(other, 9).unwrap();
+    assert_eq!(registry.mark(3, 9), Err(Error::NoSuchObstacle));
+    let rows = registry.rows().unwrap();
+    assert!(matches!(rows[..], [Row { id: 1, user: 7, enabled: true, area: 0, .. }, Row { id: 2, user: 9, enabled: false, area: 5, .. }]));
+    assert_eq!((rows[0].solid, rows[1].solid), (aside, aside));
+    let mut view = View::of_registry(&mut registry).unwrap();
+    while registry.update(1).unwrap().pending {}
+    assert_eq!(view.look_at(&mut registry).unwrap(), 2);
+    registry.remove(id).unwrap();
+    assert_eq!(registry.rows().unwrap().len(), 1);
+    let mut level = Level::open(TEXT).unwrap();
+    level.add_block(&CRATE, 0).unwrap();
+    assert!(matches!(Registry::of(level), Err((Error::HasObstacles, _))));
 }
