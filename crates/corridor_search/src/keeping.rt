@@ -43,8 +43,8 @@ pub(crate) struct BorderLink {
 
 /// The rows of heights that are written anew for a mesh in which tiles were replaced, each tile's once, those of the new tiles first and in
 /// their order. The heights of the new tiles' polygons are the greatest that those around allow, and others are mended where the new tiles
-/// made them too steep. None where there are no heights to begin with, where too many would have to be mended, or where fewer than half as
-/// many polygons of the new tiles are reached as before: where a whole island is new, nothing around it tells its heights.
+/// made them too steep. None where there are no heights to begin with, where too many would have to be mended, or where less than half as
+/// great a share of the new tiles' polygons is reached as before: where a whole island is new, nothing around it tells its heights.
 pub(crate) fn keep(
     alloc: Global,
     old: &Rows,
@@ -61,14 +61,14 @@ pub(crate) fn keep(
         border: border.as_slice(),
     };
     let mut rows = EditedRows::new(alloc, old)?;
-    let before = seen(&rows, news);
+    let before = Reach::of(&rows, news);
     for tile in news {
         rows.put(*tile, unreached(alloc, mesh, *tile as usize)?)?;
     }
     for tile in news {
         fill_tile(alloc, changes, &mut rows, *tile)?;
     }
-    if seen(&rows, news) < before / 2 {
+    if Reach::of(&rows, news).is_lost_since(before) {
         return Ok(None);
     }
     if mend(alloc, changes, &mut rows)? {
@@ -93,17 +93,33 @@ fn border_of(alloc: Global, mesh: &Mesh, news: &[TileNo]) -> Result<Vec<BorderLi
     Ok(border)
 }
 
-/// How many polygons of some tiles are seen to be reached.
-fn seen(rows: &EditedRows, tiles: &[TileNo]) -> usize {
-    let mut count = 0usize;
-    for tile in tiles {
-        for row in rows.rows(*tile as usize) {
-            if are_seen(*row) {
-                count = count.wrapping_add(1);
+/// How many polygons some tiles have, and how many of them are seen to be reached.
+#[derive(Clone, Copy)]
+struct Reach {
+    seen: usize,
+    all: usize,
+}
+
+impl Reach {
+    /// What is reached of some tiles.
+    fn of(rows: &EditedRows, tiles: &[TileNo]) -> Self {
+        let mut reach = Reach { seen: 0, all: 0 };
+        for tile in tiles {
+            for row in rows.rows(*tile as usize) {
+                reach.all = reach.all.wrapping_add(1);
+                if are_seen(*row) {
+                    reach.seen = reach.seen.wrapping_add(1);
+                }
             }
         }
+        reach
     }
-    count
+
+    /// Whether the share that is reached fell to less than half of what it was. A door that goes leaves fewer polygons than stood around it.
+    fn is_lost_since(self, before: Reach) -> bool {
+        let after = self.seen.wrapping_mul(2).wrapping_mul(before.all);
+        after < before.seen.wrapping_mul(self.all)
+    }
 }
 
 /// Rows for the polygons of a tile, none of which is reached.

@@ -1,11 +1,10 @@
-//! The links as which kept links lead on. The links that leave a polygon.
+//! The links as which kept links lead on.
 
 ghost use Rattle.std.specs.Prelude.{◌≡◌, ◌↔◌, ◌<◌, IfOk, IfSome, IfNone, IsTrue, Contains, Some, length, true};
 ghost use Rattle.nav_ground.specs.Limits.{IsSetting};
 ghost use Rattle.mesh_types.specs.declared.links.Link as references;
 ghost use Rattle.mesh_types.specs.Corridors.{IsLinkOf, cost_of};
 ghost use Rattle.mesh_types.specs.Soundness.{IsSound};
-ghost use Rattle.corridor_search.specs.MeshGraphs.{inner_links, outer_links};
 ghost use Rattle.path_queries.specs.Filters.{AreCosts, Enters, IsFilter, priced, with_costs};
 ghost use Rattle.kept_paths.specs.KeptPaths.{IsThrough, LeadOn, LeadsOn};
 
@@ -15,7 +14,7 @@ use mesh_types::{Link, Mesh, PolyRef, Portal};
 use nav_base::Point;
 use nav_ground::AREAS;
 use nav_lists::Items;
-use path_queries::{Filter, is_open};
+use path_queries::{Filter, inner, is_open, outer};
 use std::alloc::{AllocError, Global};
 
 /// How far kept links lead on: the links as which they do, the polygon to which those lead, and what they cost.
@@ -193,24 +192,4 @@ fn is_same_point(a: Point, b: Point) -> bool
     ensures { IsTrue result ↔ (a ≡ b) }
 {
     a.x == b.x && a.z == b.z
-}
-
-/// The links that leave a polygon inside its tile.
-fn inner(mesh: &Mesh, at: PolyRef) -> &[Link]
-    ensures { result.now ≡ inner_links mesh.now at }
-{
-    match mesh.tiles.get(at.tile as usize) {
-        Some(tile) => tile.get().links.leaving(at.index),
-        None => &[],
-    }
-}
-
-/// The links that leave a polygon over its tile's border.
-fn outer(mesh: &Mesh, at: PolyRef) -> &[Link]
-    ensures { result.now ≡ outer_links mesh.now at }
-{
-    match mesh.cross.get(at.tile as usize) {
-        Some(links) => links.get().leaving(at.index),
-        None => &[],
-    }
 }

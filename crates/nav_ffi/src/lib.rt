@@ -4,12 +4,13 @@
 //! definition makes of it (`specs/Requests.antt`, `specs/Steps.antt`, `specs/Jobs.antt`, `specs/Renewing.antt`); a question leaves it as it
 //! was, and its status, its counts and what it leaves in the host's arrays are those of an answer that is right in the published mesh, or what
 //! there is to draw: the definitions stand in `nav_handle` with what crosses the border (`specs/Answers.antt`, `specs/Hopping.antt`,
-//! `specs/Walking.antt`, `specs/Looking.antt` there), in `way_handle/specs` and in `place_handle/specs`. How levels are opened stands in
-//! `specs/Opening.antt`, `specs/Triangles.antt` and `specs/Meshes.antt`, what views show in `specs/Viewing.antt` and `specs/Registries.antt`, what the
-//! calls of a registry make of it in `registry_handle/specs`, which tiles changed in `specs/Changing.antt`, the version in `specs/Version.antt`. No
-//! call asks anything of its numbers: those that are out of their limits are told so, and no others.
+//! `specs/Walking.antt`, `specs/Looking.antt` there), and in `specs/` of `way_handle`, `place_handle`, `place_way_handle` and `wall_handle`. How levels
+//! are opened stands in `specs/Opening.antt`, `specs/Triangles.antt` and `specs/Meshes.antt`, what views show in `specs/Viewing.antt` and
+//! `specs/Registries.antt`, what the calls of a registry make of it in `registry_handle/specs`, which tiles changed in `specs/Changing.antt`, the
+//! version in `specs/Version.antt`. No call asks anything of its numbers: those that are out of their limits are told so, and no others.
 #![tactic(auto)]
 
+mod between;
 mod changes;
 mod goals;
 mod jobs;
@@ -23,8 +24,10 @@ mod requests;
 mod shapes;
 mod version;
 mod views;
+mod walls;
 mod ways;
 
+pub use between::{navd_view_cast_ray_from, navd_view_find_way, navd_view_find_way_near};
 pub use changes::navd_changed_tiles;
 pub use goals::{navd_view_follow_path, navd_view_nearest_goal};
 pub use jobs::{
@@ -34,7 +37,10 @@ pub use jobs::{
 pub use looking::{navd_border_links, navd_inner_links, navd_obstacles, navd_polygons};
 pub use meshes::{navd_dequantize, navd_frame_of, navd_open_mesh, navd_quantize};
 pub use opening::{navd_close, navd_open, navd_open_triangles, navd_renew};
-pub use places::{navd_view_height, navd_view_is_place, navd_view_nearest, navd_view_random_place};
+pub use places::{
+    navd_view_height, navd_view_is_place, navd_view_nearest, navd_view_random_place,
+    navd_view_slide,
+};
 pub use questions::{
     navd_cast_ray, navd_count, navd_find_hop, navd_find_path, navd_floors, navd_march,
     navd_prepare, navd_send,
@@ -52,4 +58,5 @@ pub use views::{
     navd_view_find_hop, navd_view_find_path, navd_view_floors, navd_view_inner_links,
     navd_view_march, navd_view_polygons, navd_view_send, navd_view_set_costs,
 };
+pub use walls::{navd_view_nearest_wall, navd_view_walls};
 pub use ways::{navd_view_check_path, navd_view_flood, navd_view_plan, navd_view_repair_path};

@@ -10,8 +10,10 @@ ghost use Rattle.place_handle.specs.Drawing.{IsDrawnBy, draw_asked, draw_ends, t
 ghost use Rattle.place_handle.specs.Heights.{IsHeightAt, height_ends, told_height};
 ghost use Rattle.place_handle.specs.Nearing.{IsNearestTo, near_asked, near_ends, told_near};
 ghost use Rattle.place_handle.specs.Places.{place_of};
+ghost use Rattle.place_handle.specs.Sliding.{IsSlidBy, slide_asked, slide_ends, told_slide};
+ghost use Rattle.wall_slide.specs.Slides.{CanSlide};
 
-use nav_handle::NavdView;
+use nav_handle::{NavdPoint, NavdView};
 use place_handle::{NavdNear, NavdPlace};
 use std::alloc::Global;
 
@@ -66,4 +68,23 @@ pub extern "C" fn navd_view_random_place(
     ensures same { view.new.view ≡ view.old.view }
 {
     place_handle::draw_place(alloc, view, areas, draw, place)
+}
+
+/// Where a slide along walls from a place toward a point ends in the mesh that a view shows, which enters polygons of some areas, bit a for
+/// area a.
+#[unsafe(no_mangle)]
+pub extern "C" fn navd_view_slide(
+    alloc: Global,
+    view: &mut NavdView,
+    from: &NavdPlace,
+    to: &NavdPoint,
+    areas: u64,
+    end: &mut NavdPlace,
+) -> u32
+    ensures asked { CanSlide (slide_asked from.now to.now areas)
+        → IsAskedBy (IsSlidBy (slide_asked from.now to.now areas)) slide_ends told_slide (seen_in view.old.view) end.old end.new result }
+    ensures refused { (CanSlide (slide_asked from.now to.now areas) → ⊥) → EndsSo status.out_of_range end.old end.new result }
+    ensures same { view.new.view ≡ view.old.view }
+{
+    place_handle::slide(alloc, view, from, to, areas, end)
 }

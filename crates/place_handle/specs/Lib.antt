@@ -4,3 +4,4 @@ pub mod Nearing
 pub mod Heights
 pub mod Checking
 pub mod Drawing
+pub mod Sliding

@@ -10,9 +10,11 @@ mod draws;
 mod heights;
 mod near;
 mod places;
+mod slides;
 
 pub use checks::is_place;
 pub use draws::draw_place;
 pub use heights::height;
-pub use near::{NavdNear, nearest};
-pub use places::{NO_PLACE, NavdPlace};
+pub use near::{NavdNear, near_of, nearest};
+pub use places::{NO_PLACE, NavdPlace, place_of, place_told};
+pub use slides::slide;

@@ -29,7 +29,7 @@ pub struct NavdNear {
 }
 
 /// The question for the nearest place, if it may be asked.
-fn near_of(near: &NavdNear) -> Option<Near>
+pub fn near_of(near: &NavdNear) -> Option<Near>
     ensures asked { IfSome result (λ asked. asked ≡ near_asked near.now) }
     ensures rules { IfSome result CanAskNear }
     ensures none { IfNone result (CanAskNear (near_asked near.now) → ⊥) }

@@ -18,7 +18,8 @@ pub struct NavdPlace {
     pub y: u32,
 }
 
-pub(crate) fn place_of(place: &NavdPlace) -> MeshPlace
+/// A place that C hands over.
+pub fn place_of(place: &NavdPlace) -> MeshPlace
     ensures { result ≡ place_of place.now }
 {
     MeshPlace {
@@ -31,7 +32,8 @@ pub(crate) fn place_of(place: &NavdPlace) -> MeshPlace
     }
 }
 
-pub(crate) fn place_told(place: MeshPlace) -> NavdPlace
+/// A place as C is told it.
+pub fn place_told(place: MeshPlace) -> NavdPlace
     ensures { result ≡ place_told place }
 {
     NavdPlace {

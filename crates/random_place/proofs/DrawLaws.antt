@@ -17,7 +17,7 @@ use Rattle.mesh_place.proofs.Squares.{gap_of_point}
 use Rattle.random_place.specs.declared.draws.DrawPlace.{DrawPlace}
 use Rattle.random_place.specs.declared.draws.DrawAnswer.{DrawAnswer}
 use Rattle.random_place.specs.declared.draws.DrawAnswer.TheVariants.{Drawn, Cut, Nowhere}
-use Rattle.random_place.specs.declared.spots.Spot.{Spot}
+use Rattle.random_place.specs.declared.spots.StoreyCell.{StoreyCell}
 use Rattle.random_place.specs.Draws.{spot_drawn, IsOver, IsFirstOver, IsPlaceOver, IsRightDraw, TellsStanding, IsAnswerAt, IsOverIn}
 use Rattle.random_place.specs.Spots.{spots_of}
 use Rattle.random_place.proofs.NumberLaws.{none_there}
@@ -35,7 +35,7 @@ few_polygons mesh t tile sound there =
       ap (λ (one : TileMesh). length one.polys) (get_or_from_slice_get mesh.tiles t tile tile there),
     )
 
-module _ (mesh : Mesh) (spot : Spot) (tile : TileMesh) (there : slice_get mesh.tiles spot.tile ≡ Some tile) where
+module _ (mesh : Mesh) (spot : StoreyCell) (tile : TileMesh) (there : slice_get mesh.tiles spot.tile ≡ Some tile) where
   pub over_in : (at : PolyRef) → IsOver mesh spot at → IsOverIn tile at.index spot
   over_in at over =
       let there' : slice_get mesh.tiles at.tile ≡ Some tile = ap (slice_get mesh.tiles) over.tile ∙ there in
@@ -72,7 +72,7 @@ module _ (mesh : Mesh) (spot : Spot) (tile : TileMesh) (there : slice_get mesh.t
       let within = slice_get_within tile.polys at.index inside.polygon inside.there in
       before at.index (omega (arith, all, within)) inside
 
-pub no_tile : (mesh : Mesh) (spot : Spot) → slice_get mesh.tiles spot.tile ≡ None → IsFirstOver mesh spot None
+pub no_tile : (mesh : Mesh) (spot : StoreyCell) → slice_get mesh.tiles spot.tile ≡ None → IsFirstOver mesh spot None
 no_tile mesh spot none =
     λ at over.
     none-some spot.storey
@@ -80,12 +80,12 @@ no_tile mesh spot none =
 
 -- ---- right answers
 
-pub drawn_at : (mesh : Mesh) (asked : DrawPlace) (count number : ℕ) (found : Option Spot) → count ≡ length (spots_of mesh asked.areas)
+pub drawn_at : (mesh : Mesh) (asked : DrawPlace) (count number : ℕ) (found : Option StoreyCell) → count ≡ length (spots_of mesh asked.areas)
     → number ≡ asked.draw * count / 18446744073709551616 → found ≡ slice_get (spots_of mesh asked.areas) number → found ≡ spot_drawn mesh asked
 drawn_at mesh asked count number found count_is number_is found_is =
     found_is ∙ ap (slice_get (spots_of mesh asked.areas)) (number_is ∙ ap (λ n. asked.draw * n / 18446744073709551616) count_is)
 
-pub right_at : (mesh : Mesh) (asked : DrawPlace) (spot : Spot) (answer : DrawAnswer) → spot_drawn mesh asked ≡ Some spot → IsAnswerAt mesh spot answer
+pub right_at : (mesh : Mesh) (asked : DrawPlace) (spot : StoreyCell) (answer : DrawAnswer) → spot_drawn mesh asked ≡ Some spot → IsAnswerAt mesh spot answer
     → IsRightDraw mesh asked answer
 right_at mesh asked spot (Drawn place) is over = (spot, is, over)
 right_at mesh asked spot Cut is none = (spot, is, none)
@@ -98,7 +98,7 @@ right_nowhere mesh asked count number count_is below none =
 
 -- ---- places over spots stand
 
-stands : (mesh : Mesh) (asked : DrawPlace) (spot : Spot) (place : MeshPlace) → spot_drawn mesh asked ≡ Some spot → IsPlaceOver mesh spot place → Stands mesh place
+stands : (mesh : Mesh) (asked : DrawPlace) (spot : StoreyCell) (place : MeshPlace) → spot_drawn mesh asked ≡ Some spot → IsPlaceOver mesh spot place → Stands mesh place
 stands mesh asked spot place is over =
     let cell = cell_of mesh asked.areas (asked.draw * length (spots_of mesh asked.areas) / 18446744073709551616) spot is in
     let at = place.polygon in
@@ -126,7 +126,7 @@ tells mesh asked Nowhere right = tt
 
 -- ---- one alone is right
 
-one_place : (mesh : Mesh) (spot : Spot) (a b : MeshPlace) → IsPlaceOver mesh spot a → IsPlaceOver mesh spot b → b ≡ a
+one_place : (mesh : Mesh) (spot : StoreyCell) (a b : MeshPlace) → IsPlaceOver mesh spot a → IsPlaceOver mesh spot b → b ≡ a
 one_place mesh spot a b over over' =
     let tile : b.polygon.tile ≡ a.polygon.tile = over'.first.0.tile ∙ sym over.first.0.tile in
     let before = over.first.1 b.polygon over'.first.0 in
@@ -136,23 +136,23 @@ one_place mesh spot a b over over' =
     let y : b.y ≡ a.y = over'.floor ∙ sym over.floor in
     λ i. record { polygon = record { tile = tile i; index = index i }; point = point i; y = y i }
 
-one_spot : (mesh : Mesh) (asked : DrawPlace) (a b : Spot) → spot_drawn mesh asked ≡ Some a → spot_drawn mesh asked ≡ Some b → b ≡ a
+one_spot : (mesh : Mesh) (asked : DrawPlace) (a b : StoreyCell) → spot_drawn mesh asked ≡ Some a → spot_drawn mesh asked ≡ Some b → b ≡ a
 one_spot mesh asked a b is is' = same_Some b a (sym is' ∙ is)
 
-no_spot : (mesh : Mesh) (asked : DrawPlace) (spot : Spot) → spots_of mesh asked.areas ≡ [] → spot_drawn mesh asked ≡ Some spot → ⊥
+no_spot : (mesh : Mesh) (asked : DrawPlace) (spot : StoreyCell) → spots_of mesh asked.areas ≡ [] → spot_drawn mesh asked ≡ Some spot → ⊥
 no_spot mesh asked spot none is =
-    none-some spot (sym (ap (λ (all : List Spot). slice_get all (asked.draw * length all / 18446744073709551616)) none) ∙ is)
+    none-some spot (sym (ap (λ (all : List StoreyCell). slice_get all (asked.draw * length all / 18446744073709551616)) none) ∙ is)
 
 pub one_only : (mesh : Mesh) (asked : DrawPlace) (answer : DrawAnswer) → IsRightDraw mesh asked answer → (other : DrawAnswer) → IsRightDraw mesh asked other
     → other ≡ answer
 one_only mesh asked (Drawn a) (spot, is, over) (Drawn b) (spot', is', over') =
     ap Drawn
-    (one_place mesh spot a b over (subst (λ (s : Spot). IsPlaceOver mesh s b) (one_spot mesh asked spot spot' is is') over'))
+    (one_place mesh spot a b over (subst (λ (s : StoreyCell). IsPlaceOver mesh s b) (one_spot mesh asked spot spot' is is') over'))
 one_only mesh asked (Drawn a) (spot, is, over) Cut (spot', is', none) =
-    absurd (none a.polygon (subst (λ (s : Spot). IsOver mesh s a.polygon) (sym (one_spot mesh asked spot spot' is is')) over.first.0))
+    absurd (none a.polygon (subst (λ (s : StoreyCell). IsOver mesh s a.polygon) (sym (one_spot mesh asked spot spot' is is')) over.first.0))
 one_only mesh asked (Drawn a) (spot, is, over) Nowhere none = absurd (no_spot mesh asked spot none is)
 one_only mesh asked Cut (spot, is, none) (Drawn b) (spot', is', over) =
-    absurd (none b.polygon (subst (λ (s : Spot). IsOver mesh s b.polygon) (one_spot mesh asked spot spot' is is') over.first.0))
+    absurd (none b.polygon (subst (λ (s : StoreyCell). IsOver mesh s b.polygon) (one_spot mesh asked spot spot' is is') over.first.0))
 one_only mesh asked Cut right Cut right' = refl
 one_only mesh asked Cut (spot, is, none) Nowhere none' = absurd (no_spot mesh asked spot none' is)
 one_only mesh asked Nowhere none (Drawn b) (spot, is, over) = absurd (no_spot mesh asked spot none is)

@@ -9,7 +9,7 @@ ghost use Rattle.random_place.specs.Spots.{IsInField};
 ghost use Rattle.random_place.specs.Draws.{IsAnswerAt, IsFirstOver, IsOverIn, IsRightDraw, TellsStanding, middle_of};
 
 use crate::counts::count_spots;
-use crate::spots::{Spot, spot_at};
+use crate::spots::{StoreyCell, spot_at};
 use mesh_types::{Asked, Mesh, MeshPlace, PolyRef, TileMesh, holds};
 use nav_base::Point;
 use std::alloc::{AllocError, Global};
@@ -86,7 +86,7 @@ fn spot_number(draw: u64, count: u128) -> u128
 }
 
 /// The place over a spot, in the first polygon of its storey that holds its middle.
-fn over_spot(mesh: &Mesh, spot: &Spot) -> DrawAnswer
+fn over_spot(mesh: &Mesh, spot: &StoreyCell) -> DrawAnswer
     requires sound { IsSound mesh.now }
     requires inside { IsInField spot.now }
     ensures { IsAnswerAt mesh.now spot.now result }
@@ -102,7 +102,7 @@ fn over_spot(mesh: &Mesh, spot: &Spot) -> DrawAnswer
 }
 
 /// The first polygon over a spot; none where there is none.
-fn polygon_over(mesh: &Mesh, spot: &Spot) -> Option<PolyRef>
+fn polygon_over(mesh: &Mesh, spot: &StoreyCell) -> Option<PolyRef>
     requires sound { IsSound mesh.now }
     requires inside { IsInField spot.now }
     ensures { IsFirstOver mesh.now spot.now result }
@@ -120,7 +120,7 @@ fn polygon_over(mesh: &Mesh, spot: &Spot) -> Option<PolyRef>
 }
 
 /// Whether a polygon of a tile is of a spot's storey and holds its middle.
-fn is_over(tile: &TileMesh, index: usize, spot: &Spot) -> bool
+fn is_over(tile: &TileMesh, index: usize, spot: &StoreyCell) -> bool
     requires polygons { All IsPolygon tile.now.polys }
     requires there { index < length tile.now.polys }
     requires inside { IsInField spot.now }
@@ -133,7 +133,7 @@ fn is_over(tile: &TileMesh, index: usize, spot: &Spot) -> bool
 }
 
 /// The middle of a spot's cell.
-fn middle(spot: &Spot) -> Point
+fn middle(spot: &StoreyCell) -> Point
     requires { IsInField spot.now }
     ensures value { result ≡ middle_of spot.now }
     ensures reach { HasCoordinates result }

@@ -11,7 +11,7 @@ use mesh_types::{FloorRow, Mesh, Storey};
 
 /// A cell of a storey of a mesh.
 #[derive(Clone, Copy, PartialEq, Eq)]
-pub struct Spot {
+pub struct StoreyCell {
     /// The tile's number.
     pub tile: u32,
     /// The storey's place in the tile, from 0.
@@ -31,7 +31,7 @@ pub struct Home {
 }
 
 /// The spot with a number, from 0; none where there are fewer.
-pub(crate) fn spot_at(mesh: &Mesh, areas: u64, number: u128) -> Option<Spot>
+pub(crate) fn spot_at(mesh: &Mesh, areas: u64, number: u128) -> Option<StoreyCell>
     requires sound { IsSound mesh.now }
     requires setting { IsSetting mesh.now.setting }
     ensures value { result ≡ slice_get (spots_of mesh.now areas) number }
@@ -50,7 +50,7 @@ pub(crate) fn spot_at(mesh: &Mesh, areas: u64, number: u128) -> Option<Spot>
 }
 
 /// The spot with a number, from 0, of those of a tile; none where there are fewer.
-fn spot_in_tile(storeys: &[Storey], areas: u64, tile: u32, number: u128) -> Option<Spot>
+fn spot_in_tile(storeys: &[Storey], areas: u64, tile: u32, number: u128) -> Option<StoreyCell>
     requires { AreStoreys storeys.now }
     ensures value { result ≡ slice_get (tile_spots areas tile storeys.now) number }
     ensures inside { IfSome result IsInField }
@@ -68,7 +68,7 @@ fn spot_in_tile(storeys: &[Storey], areas: u64, tile: u32, number: u128) -> Opti
 }
 
 /// The spot with a number, from 0, of those of a storey; none where there are fewer.
-fn spot_in_storey(storey: &Storey, home: Home, number: usize) -> Option<Spot>
+fn spot_in_storey(storey: &Storey, home: Home, number: usize) -> Option<StoreyCell>
     requires { IsStorey storey.now }
     ensures value { result ≡ slice_get (storey_spots home storey.now) number }
     ensures inside { IfSome result IsInField }
@@ -87,14 +87,14 @@ fn spot_in_storey(storey: &Storey, home: Home, number: usize) -> Option<Spot>
 }
 
 /// The spot with a number, from 0, of those of a row; none where there are fewer.
-fn spot_in_row(row: &FloorRow, home: Home, z: u32, number: usize) -> Option<Spot>
+fn spot_in_row(row: &FloorRow, home: Home, z: u32, number: usize) -> Option<StoreyCell>
     requires row { IsFloorRow row.now }
     requires along { z < 1024 }
     ensures value { result ≡ slice_get (row_spots home z row.now) number }
     ensures inside { IfSome result IsInField }
 {
     let floor = row.floors.get(number)?;
-    Some(Spot {
+    Some(StoreyCell {
         tile: home.tile,
         storey: home.storey,
         x: row.x0 + number as u32,

@@ -32,7 +32,7 @@ use Rattle.std.specs.contracts.impls.GlobalAllocator.TheImpl.{ghosts}
 use Rattle.std_alloc.specs.Box.Ownership.{box_owns}
 use Rattle.std_alloc.proofs.ResultValues.{and_tt}
 use Rattle.nav_handle.specs.Handles.{owns_for}
-use Rattle.registry_handle.specs.contracts.handle.LooseBox as loose
+use Rattle.registry_handle.specs.contracts.handle.RawBox as loose
 
 -- an allocator with its laws, as far as its machine value goes
 abbrev pub allocator_of : (Z : RattleType) → Laws Z → Ghosts Z.Denot → Al
@@ -43,18 +43,18 @@ abbrev pub loose_word : Val → Val → Val
 loose_word h p = vstruct (vcons h (vcons p vnil))
 
 module _ (R Z : RattleType) (laws : Laws Z) (g : Ghosts Z.Denot) where
-  abbrev pub LooseBox : RattleType
-  LooseBox = loose.the_row R Z g
+  abbrev pub RawBox : RattleType
+  RawBox = loose.the_row R Z g
 
   pub loose_fits : (h : Val) (b o : ℕ) → Good (layout Z) h → T (has_ty (layout Z) h && true) × WT (loose_word h (vptr b o))
   loose_fits h b o good = (and_tt (has_ty (layout Z) h) good.0, (good.1, (tt, tt)))
 
   module _ {M : Type 1} {𝓤 : Ura M} {𝓛 : Logic 𝓤} {K : Type 0} {Γ : List (Item 𝓤)} {G : Goal 𝓤 𝓛.H} where
     -- nothing lies at null, so its pointer is a block's
-    pub loose_out : K → (d : LooseBox.Denot) (vs : List Val)
+    pub loose_out : K → (d : RawBox.Denot) (vs : List Val)
         → ((h : Val) (b o : ℕ) → Good (layout Z) h → d.at ≡ block_ptr b o → vs ≡ loose_word h (vptr b o) ∷ []
         → Seq K 𝓛 (‵ (Z.own_val d.alloc (h ∷ [])) ∷ ‵ (box_owns (g.dealloc_token d.alloc) R (block_ptr b o) d.value) ∷ Γ) G)
-        → Seq K 𝓛 (‵ (LooseBox.own_val d vs) ∷ Γ) G
+        → Seq K 𝓛 (‵ (RawBox.own_val d vs) ∷ Γ) G
     loose_out t d vs k =
         fsplit t $ fpick t (λ parts. fsplit t $ feq_l t (λ of_parts. fsplit t $
         handle_tells (allocator_of Z laws g) t d.alloc parts.0 (λ h of_heap good. move t (1 ∷ []) $ fsplit t $ feq_l t (λ of_pointer. drop t $ move t (1 ∷ []) $
@@ -64,7 +64,7 @@ module _ (R Z : RattleType) (laws : Laws Z) (g : Ghosts Z.Denot) where
         ∙ ap (λ (ws : List Val). vstruct (of_list (h ∷ (ws ++ []))) ∷ []) of_pointer ∙ ap (λ (p : Ptr). loose_word h (ptr_val p) ∷ []) at_block))))))
 
     pub loose_in : K → (h : Val) (b o : ℕ) (a : Z.Denot) (x : R.Denot)
-        → Step K 𝓛 (‵ (LooseBox.own_val (record { alloc = a; at = block_ptr b o; value = x }) (loose_word h (vptr b o) ∷ [])) ∷ Γ) G
+        → Step K 𝓛 (‵ (RawBox.own_val (record { alloc = a; at = block_ptr b o; value = x }) (loose_word h (vptr b o) ∷ [])) ∷ Γ) G
         (‵ (Z.own_val a (h ∷ [])) ∷ ‵ (box_owns (g.dealloc_token a) R (block_ptr b o) x) ∷ Γ) G
     loose_in t h b o a x = step (λ s. let w : Val = loose_word h (vptr b o) in
         nothing t $ feq_i t (List Val) (vptr b o ∷ []) (vptr b o ∷ []) refl $ fjoin t $ move t (1 ∷ 0 ∷ []) $ fjoin t $

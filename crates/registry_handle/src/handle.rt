@@ -41,10 +41,10 @@ impl NavdRegistry {
     }
 
     /// One that holds a registry.
-    fn of(loose: LooseBox<Registry, Global>) -> NavdRegistry
+    fn of(loose: RawBox<Registry, Global>) -> NavdRegistry
         ensures { result.registry ≡ Some loose.value }
     {
-        let LooseBox { alloc, at } = loose;
+        let RawBox { alloc, at } = loose;
         NavdRegistry {
             at: at as *mut u8,
             full: 1,
@@ -53,14 +53,14 @@ impl NavdRegistry {
     }
 
     /// The registry, if it holds one.
-    fn into_loose(self) -> Option<LooseBox<Registry, Global>>
+    fn into_loose(self) -> Option<RawBox<Registry, Global>>
         ensures { option_map (λ loose. loose.value) result ≡ self.registry }
     {
         let NavdRegistry { at, full, alloc } = self;
         if full == 0 {
             None
         } else {
-            Some(LooseBox {
+            Some(RawBox {
                 alloc,
                 at: at as *mut Registry,
             })
@@ -82,7 +82,7 @@ impl NavdRegistry {
     pub fn put(&mut self, registry: Box<Registry, Global>)
         ensures { self.new.registry ≡ Some registry.value }
     {
-        if let Some(before) = replace(self, NavdRegistry::of(LooseBox::of(registry))).into_loose() {
+        if let Some(before) = replace(self, NavdRegistry::of(RawBox::of(registry))).into_loose() {
             let _ = before.into_box();
         }
     }
@@ -100,30 +100,30 @@ impl Drop for NavdRegistry {
 unsafe impl Send for NavdRegistry {}
 
 /// What a box owns, held by its pointer. Contracts see the value.
-struct LooseBox<T, A: Allocator> {
+struct RawBox<T, A: Allocator> {
     alloc: A,
     at: *mut T,
     ghost value: { T },
 }
 
-impl<T, A: Allocator> Model for LooseBox<T, A> {
+impl<T, A: Allocator> Model for RawBox<T, A> {
     ghost also_owns = { λ loose. box_owns (A.dealloc_token loose.alloc) T.row loose.at loose.value };
 }
 
-impl<T: Drop, A: Allocator> LooseBox<T, A> {
+impl<T: Drop, A: Allocator> RawBox<T, A> {
     /// Of a box.
-    fn of(value: Box<T, A>) -> LooseBox<T, A>
+    fn of(value: Box<T, A>) -> RawBox<T, A>
         ensures { result.value ≡ value.value }
     {
         let (at, alloc) = Box::into_raw_with_allocator(value);
-        LooseBox { alloc, at }
+        RawBox { alloc, at }
     }
 
     /// The box again.
     fn into_box(self) -> Box<T, A>
         ensures { result.value ≡ self.value }
     {
-        let LooseBox { alloc, at } = self;
+        let RawBox { alloc, at } = self;
         unsafe { Box::from_raw(alloc, at) }
     }
 }

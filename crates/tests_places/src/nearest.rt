@@ -103,7 +103,7 @@ fn near_of(wish: Wish) -> Near {
 }
 
 /// Whether the question may be asked.
-fn can_ask(asked: &Near) -> bool
+pub(crate) fn can_ask(asked: &Near) -> bool
     ensures { IsTrue result → CanAskNear asked.now }
 {
     has_coordinates(asked.point)

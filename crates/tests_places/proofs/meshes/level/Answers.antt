@@ -1,4 +1,4 @@
-use Rattle.std.proofs.Common.{[], sym, subst, ap}
+use Rattle.std.proofs.Common.{[], sym, subst, ap, ◌∙◌}
 use Rattle.std.proofs.lemmas.List.Elements.{All-nil}
 use Rattle.std.proofs.lemmas.Result.{IfOk-weaker}
 use Rattle.nav_ground.specs.Limits.{IsShape, IsSetting}
@@ -14,3 +14,7 @@ pub returns-clause-setting : goal.returns-clause-setting
 unfolding mesh_of
 returns-clause-setting g c =
     IfOk-weaker c.joined.result _ _ (λ mesh is. subst IsSetting (sym (ap (λ (m : Mesh). m.setting) is)) c.requires.ground.setting) c.joined.ensures.mesh
+
+pub returns-clause-under : goal.returns-clause-under
+returns-clause-under g c =
+    IfOk-weaker c.joined.result _ _ (λ mesh is. is ∙ ap (mesh_of c.args.ground.now.setting) c.in_ok-tiles.ensures.tiles) c.joined.ensures.mesh

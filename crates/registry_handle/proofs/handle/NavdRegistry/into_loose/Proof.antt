@@ -28,7 +28,7 @@ use Rattle.std.proofs.alloc.Global.TheLaws as heap_laws
 use Rattle.std.specs.contracts.impls.GlobalAllocator.TheImpl.{ghosts}
 use Rattle.std.proofs.raw_atomic.Walks.{proved_at, leaves}
 use Rattle.std_alloc.proofs.ResultValues.{and_tt}
-use Rattle.registry_handle.proofs.Words.{handle_word, handle_out, handle_fits, handle_fits_at, empty_or_full, LooseBox, loose_word, loose_in, loose_fits}
+use Rattle.registry_handle.proofs.Words.{handle_word, handle_out, handle_fits, handle_fits_at, empty_or_full, RawBox, loose_word, loose_in, loose_fits}
 use Rattle.obstacle_registry.specs.contracts.registry.Registry as held
 use Rattle.registry_handle.specs.contracts.handle.NavdRegistry as handle
 use Rattle.registry_handle.specs.contracts.handle.NavdRegistry.into_loose as f
@@ -36,7 +36,7 @@ use Rattle.registry_handle.proofs.handle.NavdRegistry.into_loose.Statement.{stat
 use Rattle.registry_handle.proofs.handle.NavdRegistry.into_loose.Code as code
 
 abbrev Made : RattleType
-Made = LooseBox held.the_row heap.the_row heap_laws.the_row_laws ghosts
+Made = RawBox held.the_row heap.the_row heap_laws.the_row_laws ghosts
 
 abbrev stayed : Stays f.ended.signature.params f.ended.kept
 stayed = (stay_dropped (plain (λ _. handle.the_row)) yes, tt)

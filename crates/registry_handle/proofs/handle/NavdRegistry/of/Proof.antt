@@ -22,14 +22,14 @@ use Rattle.std.specs.contracts.alloc.Global as heap
 use Rattle.std.proofs.alloc.Global.TheLaws as heap_laws
 use Rattle.std.specs.contracts.impls.GlobalAllocator.TheImpl.{ghosts}
 use Rattle.std.proofs.raw_atomic.Walks.{proved_at, leaves}
-use Rattle.registry_handle.proofs.Words.{handle_word, handle_in, handle_fits, LooseBox, loose_word, loose_out, loose_fits}
+use Rattle.registry_handle.proofs.Words.{handle_word, handle_in, handle_fits, RawBox, loose_word, loose_out, loose_fits}
 use Rattle.obstacle_registry.specs.contracts.registry.Registry as held
 use Rattle.registry_handle.specs.contracts.handle.NavdRegistry.of as f
 use Rattle.registry_handle.proofs.handle.NavdRegistry.of.Statement.{statement}
 use Rattle.registry_handle.proofs.handle.NavdRegistry.of.Code as code
 
 abbrev Given : RattleType
-Given = LooseBox held.the_row heap.the_row heap_laws.the_row_laws ghosts
+Given = RawBox held.the_row heap.the_row heap_laws.the_row_laws ghosts
 
 abbrev stayed : Stays f.ended.signature.params f.ended.kept
 stayed = (stay_dropped (plain (λ _. Given)) yes, tt)

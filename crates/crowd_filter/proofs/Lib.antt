@@ -1,0 +1,5 @@
+mod BeyondLaws
+mod Readings
+mod PairLaws
+mod StepLaws
+mod StandLaws

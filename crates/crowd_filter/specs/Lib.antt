@@ -1,0 +1,4 @@
+pub mod Beyond
+pub mod Pairs
+pub mod Laws
+pub mod Steps

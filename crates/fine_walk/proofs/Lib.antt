@@ -1,0 +1,9 @@
+mod Readings
+mod ExitLaws
+mod Members
+mod LeavingLinks
+mod Entering
+mod FirstLinks
+mod OneWay
+mod WayLaws
+mod StayLaws

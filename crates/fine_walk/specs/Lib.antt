@@ -1,0 +1,4 @@
+pub mod FineRays
+pub mod Stays
+pub mod Passing
+pub mod Laws

@@ -1,0 +1,4 @@
+pub mod Finding
+pub mod Joining
+pub mod Snapping
+pub mod Casting

@@ -1,0 +1,6 @@
+mod Numbers
+mod ShapeLaws
+mod Whole
+mod Bytes
+mod Pairs
+mod Loops

@@ -1,0 +1,5 @@
+pub mod LengthLaws
+mod Measures
+mod Turns
+mod Pulled
+mod WalkLaws

@@ -1,0 +1,192 @@
+//! The links that a search by cones has met, with what it knows of each.
+
+use crate::cones::Cone;
+use crate::lengths::leg;
+use crate::surrounded::is_surrounded;
+use mesh_types::{Link, Mesh, PolyRef, Side};
+use path_queries::{inner, outer};
+use std::alloc::{AllocError, Global};
+
+/// Stands for the number of no cone.
+pub(crate) const NONE: u32 = u32::MAX;
+
+/// A link, and what the cones that came to it tell.
+#[derive(Clone, Copy)]
+pub(crate) struct MetLink {
+    pub(crate) link: Link,
+    /// The portal's length in parts, rounded up.
+    width: u64,
+    /// Parts within which the left end of the portal is reached for certain, and the right end; `u64::MAX` where neither is known.
+    reach_left: u64,
+    reach_right: u64,
+    /// The number of the cone that was taken here last.
+    pub(crate) taken: u32,
+    /// Whether a line may bend at the left end, and at the right end, where that was asked before.
+    bends_left: Option<bool>,
+    bends_right: Option<bool>,
+}
+
+/// Parts from the root of a cone to both ends of its portal, rounded down.
+#[derive(Clone, Copy)]
+pub(crate) struct EndLegs {
+    pub(crate) left: u64,
+    pub(crate) right: u64,
+}
+
+impl MetLink {
+    /// A link that no cone came to yet.
+    fn new(link: Link) -> Self {
+        MetLink {
+            link,
+            width: leg(link.portal.left, link.portal.right).wrapping_add(1),
+            reach_left: u64::MAX,
+            reach_right: u64::MAX,
+            taken: NONE,
+            bends_left: None,
+            bends_right: None,
+        }
+    }
+
+    /// A cone came here: the ends that its rays go through are reached by its line and one leg more.
+    pub(crate) fn reach(&mut self, cone: &Cone, legs: EndLegs) {
+        let len = cone.len.wrapping_add(u64::from(cone.legs)).wrapping_add(1);
+        if cone.through_left {
+            self.reach_left = self.reach_left.min(len.wrapping_add(legs.left));
+        }
+        if cone.through_right {
+            self.reach_right = self.reach_right.min(len.wrapping_add(legs.right));
+        }
+    }
+
+    /// Whether each point of the portal is reached along the portal from one of its ends by less than by a cone.
+    pub(crate) fn beats(&self, cone: &Cone, legs: EndLegs) -> bool {
+        let across = self.width.wrapping_add(1);
+        self.reach_left.saturating_add(across) <= cone.len.wrapping_add(legs.right)
+            || self.reach_right.saturating_add(across) <= cone.len.wrapping_add(legs.left)
+    }
+
+    /// Whether a line may bend at an end of the portal: one that the mesh does not surround.
+    pub(crate) fn bends(&mut self, mesh: &Mesh, side: Side) -> bool {
+        let known = match side {
+            Side::L => self.bends_left,
+            Side::R => self.bends_right,
+        };
+        if let Some(bends) = known {
+            return bends;
+        }
+        let bends = !is_surrounded(mesh, self.link, side);
+        match side {
+            Side::L => self.bends_left = Some(bends),
+            Side::R => self.bends_right = Some(bends),
+        }
+        bends
+    }
+}
+
+/// The links met, those that leave one polygon one after the other.
+#[derive(Drop)]
+pub(crate) struct MetLinks {
+    links: Vec<MetLink>,
+    /// By tile and polygon: the number of the first link that leaves it, counted from 1; 0 where none was met. A tile that was not met has none.
+    firsts: Vec<Vec<u32>>,
+}
+
+/// Numbers of links, from the first up to before the end.
+#[derive(Clone, Copy)]
+pub(crate) struct LinkNumbers {
+    pub(crate) first: u32,
+    pub(crate) end: u32,
+}
+
+impl MetLinks {
+    /// No link was met.
+    pub(crate) fn new(alloc: Global) -> Self {
+        MetLinks {
+            links: Vec::new(alloc),
+            firsts: Vec::new(alloc),
+        }
+    }
+
+    /// What is known of a link.
+    pub(crate) fn get(&self, number: u32) -> Option<MetLink> {
+        self.links.get(number as usize).copied()
+    }
+
+    /// What is known of a link, to be changed.
+    pub(crate) fn get_mut(&mut self, number: u32) -> Option<&mut MetLink> {
+        self.links.get_mut(number as usize)
+    }
+
+    /// The numbers of the links that leave a polygon, which are met by this.
+    pub(crate) fn leaving(
+        &mut self,
+        alloc: Global,
+        mesh: &Mesh,
+        at: PolyRef,
+    ) -> Result<LinkNumbers, AllocError> {
+        let inside = inner(mesh, at);
+        let outside = outer(mesh, at);
+        let count = counted(inside.len()).wrapping_add(counted(outside.len()));
+        self.add_page(alloc, mesh, at.tile)?;
+        let known = self.first_of(at);
+        if known != 0 {
+            let first = known.wrapping_sub(1);
+            let end = first.wrapping_add(count);
+            return Ok(LinkNumbers { first, end });
+        }
+        let first = counted(self.links.len());
+        self.set_first(at, first.wrapping_add(1));
+        self.add(inside)?;
+        self.add(outside)?;
+        let end = first.wrapping_add(count);
+        Ok(LinkNumbers { first, end })
+    }
+
+    /// Adds links that no cone came to yet.
+    fn add(&mut self, links: &[Link]) -> Result<(), AllocError> {
+        for link in links {
+            self.links.push(MetLink::new(*link))?;
+        }
+        Ok(())
+    }
+
+    /// Makes room for the polygons of a tile.
+    fn add_page(&mut self, alloc: Global, mesh: &Mesh, tile: u32) -> Result<(), AllocError> {
+        let place = tile as usize;
+        for _ in self.firsts.len()..place + 1 {
+            self.firsts.push(Vec::new(alloc))?;
+        }
+        let Some(built) = mesh.tiles.get(place) else {
+            return Ok(());
+        };
+        let polygons = built.get().polys.len();
+        if let Some(page) = self.firsts.get_mut(place) {
+            if page.len() < polygons {
+                page.resize(polygons, 0)?;
+            }
+        }
+        Ok(())
+    }
+
+    /// The number of the first link that leaves a polygon, counted from 1, or 0.
+    fn first_of(&self, at: PolyRef) -> u32 {
+        match self.firsts.get(at.tile as usize) {
+            Some(page) => page.get(at.index as usize).copied().unwrap_or(0),
+            None => 0,
+        }
+    }
+
+    /// Writes that number.
+    fn set_first(&mut self, at: PolyRef, number: u32) {
+        if let Some(page) = self.firsts.get_mut(at.tile as usize) {
+            if let Some(first) = page.get_mut(at.index as usize) {
+                *first = number;
+            }
+        }
+    }
+}
+
+/// A count as a number of 32 bits, the greatest where it is more.
+pub(crate) fn counted(count: usize) -> u32 {
+    count.min(u32::MAX as usize) as u32
+}

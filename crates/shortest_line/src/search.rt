@@ -1,0 +1,299 @@
+//! The search by cones. Nothing is promised of what it finds, but that it ends.
+
+use crate::cones::{Bend, Cone};
+use crate::lengths::leg;
+use crate::met_links::{EndLegs, MetLinks, NONE, counted};
+use mesh_types::{Link, Mesh, PolyRef, Side};
+use nav_base::Point;
+use std::alloc::{AllocError, Global};
+use std::cmp::Reverse;
+use std::collections::BinaryHeap;
+
+/// What is looked for.
+#[derive(Clone, Copy)]
+pub(crate) struct SoughtLine<'a> {
+    pub(crate) mesh: &'a Mesh,
+    /// The polygon in which lines begin, and the one in which they end.
+    pub(crate) first: PolyRef,
+    pub(crate) last: PolyRef,
+    pub(crate) from: Point,
+    pub(crate) goal: Point,
+    /// Whether lines bend at no end of a portal that the mesh surrounds.
+    pub(crate) quick: bool,
+}
+
+/// A cone that the search made, and how it came there. Numbers are those of cones and links of the search.
+#[derive(Clone, Copy)]
+struct MadeCone {
+    cone: Cone,
+    legs: EndLegs,
+    /// The link at which it stands.
+    link: u32,
+    /// The cone that it came of.
+    parent: u32,
+    /// The cone that was taken before it at the same link.
+    before: u32,
+}
+
+/// A search for a shortest line.
+#[derive(Drop)]
+pub(crate) struct ConeSearch {
+    cones: Vec<MadeCone>,
+    met: MetLinks,
+    /// Cones that wait, by what a line by them has at least. Of equal ones the last comes first: numbers are counted down from the greatest.
+    waiting: BinaryHeap<Reverse<(u64, u32)>>,
+    /// The length of the shortest line that was found, `u64::MAX` where none was, and its last cone.
+    best: u64,
+    best_cone: u32,
+}
+
+impl ConeSearch {
+    /// A search that has come to the links that leave the first polygon.
+    pub(crate) fn new(alloc: Global, sought: SoughtLine) -> Result<Self, AllocError> {
+        let mut search = ConeSearch {
+            cones: Vec::new(alloc),
+            met: MetLinks::new(alloc),
+            waiting: BinaryHeap::new(alloc),
+            best: u64::MAX,
+            best_cone: NONE,
+        };
+        search.begin(alloc, sought)?;
+        Ok(search)
+    }
+
+    /// Comes to the links that leave the first polygon.
+    fn begin(&mut self, alloc: Global, sought: SoughtLine) -> Result<(), AllocError> {
+        let numbers = self.met.leaving(alloc, sought.mesh, sought.first)?;
+        for number in numbers.first..numbers.end {
+            if let Some(met) = self.met.get(number) {
+                let cone = Cone::through(met.link.portal, sought.from, 0, 0);
+                self.push(sought, cone, number, NONE, 0)?;
+            }
+        }
+        Ok(())
+    }
+
+    /// Takes cones, until none is left by which a line is shorter, or so many were made. Whether none is left.
+    pub(crate) fn run(
+        &mut self,
+        alloc: Global,
+        sought: SoughtLine,
+        most: u32,
+    ) -> Result<bool, AllocError> {
+        for _ in 0..u64::MAX {
+            if counted(self.cones.len()) >= most {
+                return Ok(false);
+            }
+            let Some(Reverse((key, back))) = self.waiting.pop() else {
+                return Ok(true);
+            };
+            if key >= self.best {
+                return Ok(true);
+            }
+            self.take(alloc, sought, key, u32::MAX - back)?;
+        }
+        Ok(false)
+    }
+
+    /// Takes a cone, unless another line comes to its link that is shorter.
+    fn take(
+        &mut self,
+        alloc: Global,
+        sought: SoughtLine,
+        key: u64,
+        number: u32,
+    ) -> Result<(), AllocError> {
+        let Some(made) = self.cones.get(number as usize).copied() else {
+            return Ok(());
+        };
+        if self.is_passed_over(&made) {
+            return Ok(());
+        }
+        self.mark_taken(made.link, number);
+        let Some(met) = self.met.get(made.link) else {
+            return Ok(());
+        };
+        if met.link.to == sought.last {
+            self.finish(sought, &made, met.link, number);
+            return Ok(());
+        }
+        self.follow(alloc, sought, made, met.link, (key, number))
+    }
+
+    /// Whether other lines to the link of a cone are shorter than any by it, or a cone taken there sees all that it sees.
+    fn is_passed_over(&self, made: &MadeCone) -> bool {
+        let Some(met) = self.met.get(made.link) else {
+            return true;
+        };
+        if met.beats(&made.cone, made.legs) {
+            return true;
+        }
+        let mut other = met.taken;
+        for _ in 0..self.cones.len() {
+            let Some(taken) = self.cones.get(other as usize) else {
+                return false;
+            };
+            if taken.cone.covers(&made.cone) {
+                return true;
+            }
+            other = taken.before;
+        }
+        false
+    }
+
+    /// Notes that a cone is taken at a link.
+    fn mark_taken(&mut self, link: u32, number: u32) {
+        if let Some(met) = self.met.get_mut(link) {
+            let before = met.taken;
+            met.taken = number;
+            if let Some(made) = self.cones.get_mut(number as usize) {
+                made.before = before;
+            }
+        }
+    }
+
+    /// A cone has come to the last polygon: the line by it is the best, if none found before is as short.
+    fn finish(&mut self, sought: SoughtLine, made: &MadeCone, link: Link, number: u32) {
+        let Some(bend) = made.cone.way_to(sought.goal) else {
+            return;
+        };
+        let rest = match bend {
+            Bend::None => leg(made.cone.root, sought.goal),
+            Bend::Left => made
+                .legs
+                .left
+                .wrapping_add(leg(link.portal.left, sought.goal)),
+            Bend::Right => made
+                .legs
+                .right
+                .wrapping_add(leg(link.portal.right, sought.goal)),
+        };
+        let len = made.cone.len.wrapping_add(rest);
+        if len < self.best {
+            self.best = len;
+            self.best_cone = number;
+        }
+    }
+
+    /// Goes on over the links that leave the polygon that a cone has come to, but those back.
+    fn follow(
+        &mut self,
+        alloc: Global,
+        sought: SoughtLine,
+        made: MadeCone,
+        link: Link,
+        taken: (u64, u32),
+    ) -> Result<(), AllocError> {
+        let numbers = self.met.leaving(alloc, sought.mesh, link.to)?;
+        for number in numbers.first..numbers.end {
+            if let Some(next) = self.met.get(number) {
+                if next.link.to != link.from {
+                    self.follow_over(sought, made, (link, next.link), number, taken)?;
+                }
+            }
+        }
+        Ok(())
+    }
+
+    /// Pushes the cones of the next link that come of one.
+    fn follow_over(
+        &mut self,
+        sought: SoughtLine,
+        made: MadeCone,
+        links: (Link, Link),
+        number: u32,
+        taken: (u64, u32),
+    ) -> Result<(), AllocError> {
+        let (portal, next) = (links.0.portal, links.1.portal);
+        let (floor, parent) = taken;
+        let cone = made.cone;
+        if cone.whole {
+            let on = Cone::through(next, cone.root, cone.len, cone.legs);
+            return self.push(sought, on, number, parent, floor);
+        }
+        if let Some(left) = cone.turned_left(portal, next, cone.len.wrapping_add(made.legs.left)) {
+            if self.bends(sought, made.link, Side::L) {
+                self.push(sought, left, number, parent, floor)?;
+            }
+        }
+        if let Some(on) = cone.straight_on(next) {
+            self.push(sought, on, number, parent, floor)?;
+        }
+        if let Some(right) = cone.turned_right(
+            portal,
+            next,
+            cone.len.wrapping_add(made.legs.right),
+        ) {
+            if self.bends(sought, made.link, Side::R) {
+                self.push(sought, right, number, parent, floor)?;
+            }
+        }
+        Ok(())
+    }
+
+    /// Whether lines bend at an end of a link's portal.
+    fn bends(&mut self, sought: SoughtLine, link: u32, side: Side) -> bool {
+        if !sought.quick {
+            return true;
+        }
+        match self.met.get_mut(link) {
+            Some(met) => met.bends(sought.mesh, side),
+            None => true,
+        }
+    }
+
+    /// A cone comes to a link. It waits, unless other lines there are shorter, or the straight rest is too long. No key is less than that of the
+    /// cone that it came of.
+    fn push(
+        &mut self,
+        sought: SoughtLine,
+        cone: Cone,
+        link: u32,
+        parent: u32,
+        floor: u64,
+    ) -> Result<(), AllocError> {
+        let Some(met) = self.met.get_mut(link) else {
+            return Ok(());
+        };
+        let legs = EndLegs {
+            left: leg(cone.root, met.link.portal.left),
+            right: leg(cone.root, met.link.portal.right),
+        };
+        met.reach(&cone, legs);
+        if met.beats(&cone, legs) {
+            return Ok(());
+        }
+        let key = floor.max(cone.len.wrapping_add(leg(cone.root, sought.goal)));
+        if key >= self.best {
+            return Ok(());
+        }
+        let number = counted(self.cones.len());
+        self.cones.push(MadeCone {
+            cone,
+            legs,
+            link,
+            parent,
+            before: NONE,
+        })?;
+        self.waiting.push(Reverse((key, u32::MAX - number)))?;
+        Ok(())
+    }
+
+    /// The links of the shortest line that was found, in order; none where none was.
+    pub(crate) fn links(&self, alloc: Global) -> Result<Vec<Link>, AllocError> {
+        let mut links = Vec::new(alloc);
+        let mut number = self.best_cone;
+        for _ in 0..self.cones.len() {
+            let Some(made) = self.cones.get(number as usize) else {
+                break;
+            };
+            let Some(met) = self.met.get(made.link) else {
+                break;
+            };
+            links.push(met.link)?;
+            number = made.parent;
+        }
+        links.reverse();
+        Ok(links)
+    }
+}

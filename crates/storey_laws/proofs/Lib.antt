@@ -1,0 +1,9 @@
+mod FreeFloors
+mod StoreyCells
+mod HeldFloors
+mod CornerPlaces
+mod StripStoreys
+mod RegionStoreys
+mod BuiltTiles
+mod PlacesTold
+mod SpotPlaces

@@ -1,0 +1,4 @@
+pub mod Built
+pub mod FreeCells
+pub mod HeldPlaces
+pub mod PlacesTold

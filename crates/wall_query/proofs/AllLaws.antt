@@ -1,0 +1,43 @@
+-- All walls around a place, and the answers to both questions.
+use Rattle.std.proofs.Common.{◌≡◌, ◌*◌, ◌↔◌, List, subst}
+use Rattle.std.specs.Prelude.{All, Contains, get_or}
+use Rattle.std.specs.List.Sorted.{IsPermutation}
+use Rattle.std.proofs.lemmas.List.Elements.{Contains-get_or}
+use Rattle.std.proofs.lemmas.List.Sorted.{Contains-permutation, IsPermutation-sym}
+use Rattle.mesh_types.specs.declared.links.PolyRef.{PolyRef}
+use Rattle.mesh_types.specs.declared.mesh.Mesh.{Mesh}
+use Rattle.wall_slide.specs.Slides.{whole}
+use Rattle.wall_query.specs.declared.around.Around.{Around}
+use Rattle.wall_query.specs.declared.questions.Wall.{Wall}
+use Rattle.wall_query.specs.declared.questions.WallQuery.{WallQuery}
+use Rattle.wall_query.specs.declared.questions.WallsQuery.{WallsQuery}
+use Rattle.wall_query.specs.AllWalls.{AreWallsAround}
+use Rattle.wall_query.specs.Around.{IsAround, IsListed}
+use Rattle.wall_query.specs.Walls.{ArePolygonsInOrder, AreWallsOf, IsInReach, IsWallAround, IsWallWithin}
+
+-- what is looked at for all walls
+abbrev pub all_around : WallsQuery → Around
+all_around asked = record { from = asked.from; areas = asked.areas; far = whole (asked.reach * asked.reach) }
+
+pub all_of : (mesh : Mesh) (asked : WallsQuery) (around : Around) (list sorted : List PolyRef) (walls : List Wall) → around ≡ all_around asked
+    → ((at : PolyRef) → Contains list at ↔ IsListed mesh around at) → IsPermutation list sorted → ArePolygonsInOrder sorted → AreWallsOf mesh around sorted walls
+    → AreWallsAround mesh asked walls
+all_of mesh asked around list sorted walls is listed permuted order are = record {
+  each = λ wall. subst (λ (a : Around). Contains walls wall ↔ (IsWallWithin mesh a.areas a.from.point a.far wall × IsAround mesh a.areas a.from a.far wall.polygon)) is (
+    (λ held.
+        let one = (are.has wall).0 held in
+        (one.0, (listed wall.polygon).0 (Contains-permutation sorted list wall.polygon (IsPermutation-sym list sorted permuted) one.1))),
+    (λ one. (are.has wall).1 (one.0, Contains-permutation list sorted wall.polygon permuted ((listed wall.polygon).1 one.1))),
+  );
+  order = are.order order;
+}
+
+-- what is looked at for the nearest wall
+abbrev pub reach_around : WallQuery → Around
+reach_around asked = record { from = asked.from; areas = asked.areas; far = whole (asked.reach * asked.reach) }
+
+-- the walls of the polygons that are listed are within the reach
+pub in_reach : (mesh : Mesh) (asked : WallQuery) (around : Around) (list : List PolyRef) (walls : List Wall) → around ≡ reach_around asked
+    → AreWallsOf mesh around list walls → All (IsInReach mesh asked) walls
+in_reach mesh asked around list walls is are k d below =
+    subst (λ (a : Around). IsWallAround mesh a (get_or walls k d)) is ((are.has (get_or walls k d)).0 (Contains-get_or walls k d below)).0

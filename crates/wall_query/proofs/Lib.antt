@@ -1,0 +1,12 @@
+mod Listed
+mod Lefts
+mod LeavingLinks
+mod GatherLaws
+mod FieldPoints
+mod ListLaws
+mod FirstLaws
+mod PartLaws
+mod WallLaws
+mod ListedWalls
+mod BestLaws
+mod AllLaws

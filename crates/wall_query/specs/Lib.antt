@@ -1,0 +1,6 @@
+pub mod AllWalls
+pub mod Around
+pub mod Gathers
+pub mod Lists
+pub mod Parts
+pub mod Walls
