@@ -5,10 +5,10 @@
 # questions; where a PEER is given, a command that plays the same input, its runs stand between. Fails where a question takes more than LIMIT
 # times the peer's. GENERATOR takes the columns along a side, the columns along a tile's side, how many obstacles, how many questions and a seed.
 # Build the program first: cd crates/navd && rt run -- play < stdin.
-# usage: [RUNS=3] [LIMIT=7] bench/changes.sh GENERATOR [PEER]
+# usage: [RUNS=3] [LIMIT=1] bench/changes.sh GENERATOR [PEER]
 set -eu
 navd=${NAVD:-$(cd "$(dirname "$0")" && pwd)/../crates/navd/out/navd}
-limit=${LIMIT:-7}
+limit=${LIMIT:-1}
 generator=$1
 peer=${2:-}
 work=$(mktemp -d)

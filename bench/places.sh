@@ -6,9 +6,8 @@
 # With PEER, a program as places_peer.cpp makes it, or that file, which is compiled then (librecast-dev of the distribution is wanted), the library's
 # calls are timed beside the peer's on the same spans, as places.c and places_peer.cpp do it: on two made levels of contours, and on each LEVEL,
 # a field text whose height unit is UNIT cells. Each number is the least of RUNS runs in turn. Fails where the ratio of a kind, or of the sum of
-# the nearest places, is above its limit. Of each LEVEL it also tells the share of its floors that have a nearest place within four cells, and how
-# many points of paths have no place; it fails below 99.3 % and above 0. With INSTRUCTIONS=1 it counts instructions, by callgrind of the
-# distribution's valgrind, in place of times, with the same limits: a busy machine does not change them. PEER is a source file then.
+# the nearest places, is above its limit. With INSTRUCTIONS=1 it counts instructions, by callgrind of the distribution's valgrind, in place of times,
+# with the same limits: a busy machine does not change them. PEER is a source file then.
 # LIB is the archive of the library, and else what `rt lib` of crates/nav_ffi makes.
 # usage: [LIB=..] [UNIT=0.125] [RUNS=5] [COUNT=4000] [INSTRUCTIONS=1] bench/places.sh [PEER [LEVEL..]]
 set -eu
@@ -41,7 +40,7 @@ alone() {
     }'
 }
 
-# asked NAME PROGRAM..: a line for each kind of question, its name, what one takes, and how many have a place, behind those of NAME
+# asked NAME PROGRAM..: a line for each kind of question, its name, what one takes, how many have an answer, and how many there are, behind those of NAME
 asked() {
     name=$1
     shift
@@ -51,12 +50,10 @@ asked() {
     fi
     rm -f "$work"/calls*
     valgrind --tool=callgrind --instr-atstart=no --callgrind-out-file="$work/calls" "$@" 1 > "$work/found" 2> "$work/valgrind.log"
-    # heights are asked at all places that were found, nearest places as often as there are questions
-    while read -r kind _ found; do
-        count=$(grep -c "^$kind " "$work/questions") || count=$found
+    while read -r kind _ found count; do
         awk -v kind="$kind" -v found="$found" -v count="$count" '
             /^totals:/ { all = $2 }
-            END { printf "%s %.1f %d\n", kind, all / count, found }' "$(grep -l "Client Request: $kind\$" "$work"/calls.*)"
+            END { printf "%s %.1f %d %d\n", kind, all / count, found, count }' "$(grep -l "Client Request: $kind\$" "$work"/calls.*)"
     done < "$work/found" >> "$work/$name"
 }
 
@@ -73,39 +70,31 @@ beside() {
     awk -v level="$1" -v unit="${INSTRUCTIONS:+instructions}" '
         BEGIN {
             most["floor4"] = 1.3; most["floor16"] = 1; most["any64"] = 1; most["air4"] = 1.6; most["height"] = 1
+            most["half"] = 1; most["step3"] = 1.5; most["wall10"] = 2; most["random"] = 1
             if (!unit) unit = "ns"
         }
         FNR == 1 { file++ }
         {
             key = file " " $1
             if (!(key in least) || $2 < least[key]) least[key] = $2
-            found[key] = $3
+            part[key] = $3 " of " $4
             if (file == 1 && !($1 in seen)) { seen[$1]; order[++n] = $1 }
         }
+        # a kind without a limit is told alone
         function told(name, a, b, limit) {
-            worse = a > limit * b ? ", ABOVE" : ""
-            printf "%s, %s: %.0f %s, the peer %.0f; ratio %.2f [%.1f]%s\n", level, name, a, unit, b, a / b, limit, worse
+            worse = limit && a > limit * b ? ", ABOVE" : ""
+            printf "%s, %s: %.0f %s, the peer %.0f; ratio %.2f [%s]%s\n", level, name, a, unit, b, a / b, limit ? sprintf("%.1f", limit) : "no limit", worse
             if (worse) above = 1
         }
         END {
             for (i = 1; i <= n; i++) {
                 k = order[i]
-                told(k " (" found["1 " k] " found, the peer " found["2 " k] ")", least["1 " k], least["2 " k], most[k])
-                if (k != "height") { a += least["1 " k]; b += least["2 " k] }
+                told(k " (" part["1 " k] ", the peer " part["2 " k] ")", least["1 " k], least["2 " k], most[k])
+                if (k ~ /^(floor4|floor16|any64|air4)$/) { a += least["1 " k]; b += least["2 " k] }
             }
             told("all nearest", a, b, 1)
             exit above
         }' "$work/own" "$work/peer"
-}
-
-# places NAME FIELD: how much of a level has places
-places() {
-    "$work/places" "$2" cover | awk -v level="$1" '{
-        printf "%s: %.2f %% of %d floors have a place within four cells [99.3]\n", level, 100 * $1 / $2, $2
-        exit !($1 >= 0.993 * $2) }' || return 1
-    "$work/places" "$2" walk 200 | awk -v level="$1" '{
-        printf "%s: %d of %d points of %d paths without a place [0]; %d beside the cells of their polygons\n", level, $1, $3, $4, $2
-        exit $1 > 0 }'
 }
 
 [ $# -gt 0 ] || { alone; exit; }
@@ -119,7 +108,7 @@ if [ -z "${LIB:-}" ]; then
     (cd crates/nav_ffi && rt lib > "$work/build.log" 2>&1) || { cat "$work/build.log"; exit 1; }
     LIB=crates/nav_ffi/out/libnav_ffi.a
 fi
-cc -std=c11 -O2 ${INSTRUCTIONS:+-DCOUNTED} bench/places.c hosts/c/heap.c "$LIB" -o "$work/places"
+cc -std=c11 -O2 ${INSTRUCTIONS:+-DCOUNTED} bench/places.c hosts/c/heap.c "$LIB" -lm -o "$work/places"
 
 status=0
 python3 bench/path_input.py 512 0 1 64 path contours | sed '/^end/q' > "$work/one"
@@ -129,6 +118,5 @@ beside "two storeys" "$work/two" 1 || status=1
 for level in "$@"; do
     name=$(basename "$level" .field)
     beside "$name" "$level" "${UNIT:-0.125}" || status=1
-    places "$name" "$level" || status=1
 done
 exit $status

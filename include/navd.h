@@ -66,8 +66,8 @@ extern "C" {
 #define NAVD_HISTORY_FULL 7u  /* the history has 262144 entries, the most that it can have; nothing was done */
 #define NAVD_NOT_YET 8u       /* something is not built or published yet; nothing was done */
 #define NAVD_SAME 9u          /* it was so before; nothing was done */
-#define NAVD_NO_START 10u     /* no polygon holds the place where the path or the ray begins */
-#define NAVD_NO_GOAL 11u      /* no polygon holds the place where the path ends */
+#define NAVD_NO_START 10u     /* there is no place where the path, the ray or the slide is to begin */
+#define NAVD_NO_GOAL 11u      /* there is no place where the path is to end */
 #define NAVD_NO_PATH 12u      /* both places are held, and no walk joins them */
 #define NAVD_WALL 13u         /* the ray ends at an edge */
 #define NAVD_NO_ROOM 14u      /* there is too little room for what is told; nothing was done */
@@ -78,7 +78,7 @@ extern "C" {
 #define NAVD_PARTIAL 19u        /* no way leads to the goal, or none within the limits; the way to the nearest place was found */
 #define NAVD_LIMIT 20u          /* a limit ended the search: a way there, if there is one, costs no less than `seen` */
 #define NAVD_CUT 21u            /* the kept path leads on in part; no polygon holds the middle of the cell that was drawn */
-#define NAVD_NO_PLACE 22u       /* no place is in reach, or the place is none of the mesh */
+#define NAVD_NO_PLACE 22u       /* no place, or no wall, is in reach, or the place is none of the mesh */
 #define NAVD_NO_OBSTACLE 24u    /* no obstacle has the id; nothing was done */
 
 /* A handle of a level. Zeroed, it holds nothing: navd_level level = {0}; */
@@ -417,6 +417,46 @@ typedef struct {
     navd_point at;
     uint32_t y, reach, down, up, weight;
 } navd_near;
+
+/* What is found of a way between places: what it costs, or what it costs at least (`seen`), and how many links and corners it has. */
+typedef struct {
+    uint64_t cost, seen;
+    size_t links, corners;
+} navd_found_way;
+
+/* A way from a place to another. The host writes the two places, the areas that may be entered, and what ends the search: nothing is looked at where
+ * the way there and the straight rest together cost more than most_cost (UINT64_MAX: no limit), nor after most_polygons polygons (SIZE_MAX: no limit).
+ * The call leaves what it finds. */
+typedef struct {
+    navd_place from, to;
+    uint64_t areas, most_cost;
+    size_t most_polygons;
+    navd_found_way found;
+} navd_place_way;
+
+/* The same between the places that are nearest to two points. */
+typedef struct {
+    navd_near from, to;
+    uint64_t areas, most_cost;
+    size_t most_polygons;
+    navd_found_way found;
+} navd_near_way;
+
+/* Where walls are looked for: around a place, within a reach in sixteenths, below 262144, and over polygons of which areas, bit a for area a. */
+typedef struct {
+    navd_place from;
+    uint32_t reach;
+    uint64_t areas;
+} navd_around;
+
+/* A wall: a part of an edge of a polygon, edge i from corner i to the next, over which no link leads into an allowed area, as long as it can be. The
+ * polygon lies to the left of the way from `begin` to `end`. num / den is the square of how far it is from the place, in sixteenths, not reduced. */
+typedef struct {
+    navd_polygon polygon;
+    navd_point begin, end;
+    uint64_t num, den;
+    uint32_t edge;
+} navd_wall;
 
 /* The first line of a text that fails, from 1, and the kind of its fault, as docs/FORMATS.md has them. */
 typedef struct {
@@ -793,6 +833,45 @@ uint32_t navd_view_is_place(navd_view *view, const navd_place *place);
  * NAVD_OK. NAVD_CUT: no polygon holds the middle; another number is to be drawn. NAVD_NO_PLACE: no cell has an allowed area. NAVD_EMPTY.
  * NAVD_NO_MEMORY. */
 uint32_t navd_view_random_place(navd_view *view, uint64_t areas, uint64_t draw, navd_place *place);
+
+/* A cheapest walk from the polygon of way->from to that of way->to through a filter, which is that of navd_view_plan, and a taut line through its portals:
+ * corners[0] is way->from, the last corner is way->to, and each between them is a turn, in the polygon that the link enters round whose portal it
+ * turns, on the highest floor there. No polygon is looked for anew, so a way never begins or ends on another storey than its place.
+ * NAVD_OK. NAVD_LIMIT: each walk through the filter that joins the two costs at least way->found.seen, which alone is told. NAVD_NO_START, NAVD_NO_GOAL: it
+ * is no place of what the view shows. NAVD_NO_PATH: no walk joins the two through the filter. NAVD_OUT_OF_RANGE: before all others. NAVD_EMPTY.
+ * NAVD_NO_MEMORY. */
+uint32_t navd_view_find_way(navd_view *view, navd_place_way *way, const uint32_t *costs, size_t costs_count, navd_link *links, size_t links_room,
+                            navd_place *corners, size_t corners_room);
+
+/* The same between the places that navd_view_nearest tells of way->from and of way->to, which are the first corner and the last; way->areas are those of
+ * the walk. All of it is answered in one mesh.
+ * NAVD_OK. NAVD_NO_START, NAVD_NO_GOAL: no place is in reach of it. NAVD_LIMIT, NAVD_NO_PATH, as above. NAVD_OUT_OF_RANGE: before all others. NAVD_EMPTY.
+ * NAVD_NO_MEMORY. */
+uint32_t navd_view_find_way_near(navd_view *view, navd_near_way *way, const uint32_t *costs, size_t costs_count, navd_link *links, size_t links_room,
+                                 navd_place *corners, size_t corners_room);
+
+/* The straight walk from a place, in whose polygon it begins, toward a point; it ends as that of navd_view_cast_ray.
+ * NAVD_OK. NAVD_WALL. NAVD_NO_START: `from` is no place of what the view shows. NAVD_OUT_OF_RANGE: before all others. NAVD_EMPTY. NAVD_NO_MEMORY. */
+uint32_t navd_view_cast_ray_from(navd_view *view, const navd_place *from, const navd_point *to, navd_ray *ray);
+
+/* Moves from a place toward a point along walls, for steps of a cell or so. Polygons are looked at to which links lead from that of `from` into allowed
+ * areas, bit a for area a (UINT64_MAX: all areas), through portals that touch the disc whose diameter is the way from `from` to `to`. Of the points that
+ * these hold and that are no farther from `from` than `to` is, none is nearer to `to` than that of `end`, which is in one of them, on the highest floor
+ * there. So it is no farther from `to` than `from` is. Points are whole: who moves less than a sixteenth a step stands still, unless the host keeps the
+ * rest.
+ * NAVD_OK. NAVD_NO_START: `from` is no place of what the view shows. NAVD_OUT_OF_RANGE: before all others. NAVD_EMPTY. NAVD_NO_MEMORY. */
+uint32_t navd_view_slide(navd_view *view, const navd_place *from, const navd_point *to, uint64_t areas, navd_place *end);
+
+/* The wall nearest to a place. Walls count to whose polygon links lead from that of the place, into allowed areas, through portals no farther from the
+ * place than the wall is; so a wall of another storey, or behind one, is not told.
+ * NAVD_OK. NAVD_NO_PLACE: there is none within the reach. NAVD_NO_START: around->from is no place of what the view shows. NAVD_OUT_OF_RANGE: before all
+ * others. NAVD_EMPTY. NAVD_NO_MEMORY. */
+uint32_t navd_view_nearest_wall(navd_view *view, const navd_around *around, navd_wall *wall);
+
+/* All walls within the reach of the polygons to which such links lead through portals within the reach, by tile, polygon, edge, and along the edge; how
+ * many there are is left at `count`.
+ * NAVD_OK. NAVD_NO_START: around->from is no place of what the view shows. NAVD_OUT_OF_RANGE: before all others. NAVD_EMPTY. NAVD_NO_MEMORY. */
+uint32_t navd_view_walls(navd_view *view, const navd_around *around, navd_wall *walls, size_t room, size_t *count);
 
 #ifdef __cplusplus
 }

@@ -10,7 +10,8 @@
  *     navd_snapshot_refresh(snapshot, world);                           in any thread, each with a snapshot of its own
  *     if (navd_snapshot_find_path(snapshot, NULL, &from, &to, route) == NAVD_OK) count = navd_route_corners(route, &corners);
  *
- * It is hosts/world/navd_world.c, in C11, which is built with the host; no proof reaches it. What it asks the library for is proved.
+ * It is hosts/world/navd_world.c, in C11: libnavd.a and libnavd.so of a package have it, and over the archive of `rt lib` it is built with the host. No
+ * proof reaches it. What it asks the library for is proved.
  *
  * Lengths are the game's, and y is up. Each number that goes in becomes the nearest sixteenth of a cell, along y the nearest height unit, as
  * navd_quantize says; a number that is none, infinite or too far away is NAVD_OUT_OF_RANGE. What comes out is the nearest float, so that the same

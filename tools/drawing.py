@@ -25,6 +25,8 @@ LINES = {
     "from": ("fill:#fff;stroke:#000", 1.6, ()),
     "to": ("fill:#000;stroke:#fff", 1, ()),
     "turn": ("fill:#f0e442;stroke:#000", 1.2, ()),
+    "way": ("fill:none;stroke:#009e73;stroke-linejoin:round", 2.4, ()),
+    "place": ("fill:#009e73;stroke:#fff", 1.2, ()),
 }
 FONT = "text{font-family:'DejaVu Sans',Verdana,sans-serif;fill:#1a1a1a}"
 
@@ -233,6 +235,19 @@ class Drawing:
             side = "left" if end == "L" else "right"
             parts.append(f'<circle class="turn" cx="{x}" cy="{y}" r="{show(size * 0.8)}"><title>turn at the {side} end of portal {place}</title></circle>')
         return parts
+
+    def places(self, places, size):
+        """Places, each as its tile, its polygon there, x, z and floor: dots, joined as a way's corners are; `size` is that of the dots."""
+        shown = [place for place in places if self.is_shown(place[4], place[4])]
+        parts = []
+        if len(shown) > 1:
+            course = "L".join(self.sixteenths(place[2:4]) for place in shown)
+            parts += [f'<path class="{name}" d="M{course}"/>' for name in ("halo", "way")]
+        for tile, index, x, z, floor in shown:
+            across, down = self.sixteenths((x, z)).split(" ")
+            title = f"<title>place at {x} {z}, floor {floor}, polygon {tile} {index}</title>"
+            parts.append(f'<circle class="place" cx="{across}" cy="{down}" r="{show(size * 0.9)}">{title}</circle>')
+        return "".join(parts)
 
     def ray_to_wall(self, line, start, goal):
         x1, z1, x2, z2, over, under = [int(word) for word in line.answer[0][2:]]

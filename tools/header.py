@@ -1,8 +1,8 @@
 #!/usr/bin/env python3
 """Compares the five places that say how a host calls the library, which people write by hand: include/navd.h, the exports and #[repr(C)]
-structs of the library (crates/nav_ffi, nav_handle, way_handle, place_handle, registry_handle, mesh_handle and world_grid), hosts/rust/src/sys.rs, hosts/python/navd.py and
-hosts/csharp/Navd.cs. The linker compares names alone. hosts/cpp/navd.hpp includes the header: of it each call and each status number is wanted, and its compiler
-compares the rest.
+structs of the library (CRATES), hosts/rust/src/sys.rs, hosts/python/navd.py and hosts/csharp/Navd.cs. The linker compares names
+alone. hosts/cpp/navd.hpp includes the header: of it each call and each status number is wanted, and its compiler compares the rest. Of the calls
+of include/navd_world.h each of the four hosts names all; hosts/check.sh compares how their structs lie.
 
 The header is the measure. Each of the others must have the same calls, with the same parameters in the same order, the same structs, field by
 field, the same status numbers, and the same version, which the file VERSION has too. What a place cannot say is not asked of it:
@@ -23,7 +23,12 @@ from unittest import mock
 
 HEADER, RUST, PYTHON = "include/navd.h", "hosts/rust/src/sys.rs", "hosts/python/navd.py"
 CSHARP, CPP, VERSION = "hosts/csharp/Navd.cs", "hosts/cpp/navd.hpp", "VERSION"
-LIBRARY = tuple(f"crates/{name}/src" for name in ("nav_ffi", "nav_handle", "way_handle", "place_handle", "registry_handle", "mesh_handle", "world_grid"))
+WORLD = "include/navd_world.h"
+# Where the hosts name its calls, and how.
+WORLD_HOSTS = {"hosts/cpp/navd_world.hpp": r"\b(navd_(?:status|world|snapshot|route)_\w+)\(", "hosts/csharp/NavdWorld.cs": r"\bextern \w+ (navd_\w+)\(",
+               "hosts/python/navd_world.py": r'"(navd_\w+)", \[', "hosts/rust/src/world_sys.rs": r"\bpub fn (navd_\w+)\("}
+CRATES = ("nav_ffi", "nav_handle", "way_handle", "place_handle", "place_way_handle", "wall_handle", "registry_handle", "mesh_handle", "world_grid")
+LIBRARY = tuple(f"crates/{name}/src" for name in CRATES)
 C_TYPES = {"uint8_t": "u8", "uint32_t": "u32", "int32_t": "i32", "uint64_t": "u64", "int64_t": "i64", "size_t": "usize", "float": "f32",
            "void": "nothing"}
 CSHARP_TYPES = {"byte": "u8", "uint": "u32", "int": "i32", "ulong": "u64", "long": "i64", "UIntPtr": "usize", "float": "f32", "IntPtr": "pointer",
@@ -87,8 +92,12 @@ def c_parameters(text):
         yield word[4], c_type(word[2], word[3], word[1])
 
 
+def without_comments(path):
+    return re.sub(r"/\*.*?\*/|//[^\n]*", "", path.read_text(), flags=re.S)
+
+
 def of_header(top):
-    text = re.sub(r"/\*.*?\*/|//[^\n]*", "", (top / HEADER).read_text(), flags=re.S)
+    text = without_comments(top / HEADER)
     numbers = found(HEADER, text, r"^#define NAVD_\w+[ (]", r"^#define NAVD_(\w+) (\d+)u\s*$")
     structs = found(HEADER, text, r"^typedef", r"^typedef struct \{(.*?)\} (\w+);")
     calls = found(HEADER, text, r"\bnavd_\w+ *\(", r"^(\w+) (navd_\w+)\(([^;{]*?)\);")
@@ -320,6 +329,15 @@ def of_cpp(top, header):
     yield from (f"{CPP}: the number {name} is missing" for name in header.numbers if f"NAVD_{name}" not in words)
 
 
+def of_worlds(top):
+    """Calls of the header of worlds that a host does not name, or names and are not there."""
+    calls = {one[1] for one in found(WORLD, without_comments(top / WORLD), r"\bnavd_\w+ *\(", r"\b(navd_\w+)\(")}
+    for host, form in WORLD_HOSTS.items():
+        named = set(re.findall(form, re.sub(r"//[^\n]*", "", (top / host).read_text())))
+        yield from (f"{host}: the call {name} is missing" for name in sorted(calls - named))
+        yield from (f"{host}: the call {name} is not in {WORLD}" for name in sorted(named - calls))
+
+
 def of_version(top, header):
     """The version of the header is that of the file, as one number."""
     major, minor, patch = (int(part) for part in (top / VERSION).read_text().split("."))
@@ -334,7 +352,7 @@ def differences(top):
     lines = [*compared(header, of_library(top))]
     lines += compared(for_hosts(header, lambda told: told), of_rust(top))
     eased = for_hosts(header, lambda told: re.sub(r"\*(const|mut) ", "* ", told))
-    lines += [*compared(eased, of_python(top)), *compared(eased, of_csharp(top)), *of_cpp(top, header), *of_version(top, header)]
+    lines += [*compared(eased, of_python(top)), *compared(eased, of_csharp(top)), *of_cpp(top, header), *of_worlds(top), *of_version(top, header)]
     words, fields = (sum(map(len, lists.values())) for lists in (header.calls, header.structs))
     said = f"{len(header.calls)} calls with {words} parameters, {len(header.structs)} structs with {fields} fields, "
     return lines, said + f"{len(header.numbers) - 1} status numbers and the version"

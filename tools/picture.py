@@ -4,6 +4,9 @@ lines.
 
 The picture is that of one published length: the last one, or another by --length. The ground is what is free: walls, ledges and what
 obstacles take away stay white. Paths, hop walks and rays are those that were answered at that length.
+
+With --places also places that a host was told, as by navd_view_nearest: a line of that file is one place or more, five whole numbers each,
+its tile, its polygon there, x and z in sixteenths of a cell, and its floor. Places of one line are joined, as the corners of a way.
 """
 import argparse
 import sys
@@ -26,6 +29,8 @@ MARKS = {
     "ray": ('<path class="ray" d="M0 6h16"/>', "ray"),
     "wall": ('<path class="wall" d="M0 6h16"/>', "wall it meets"),
     "none": ('<path class="none" d="M0 6h16"/>', "not reached"),
+    "way": ('<path class="way" d="M0 6h16"/>', "way between places"),
+    "place": ('<circle class="place" cx="8" cy="6" r="5"/>', "place"),
     "from": ('<circle class="from" cx="8" cy="6" r="5"/>', "start"),
     "to": ('<rect class="to" x="3" y="1" width="10" height="10"/>', "goal"),
 }
@@ -66,7 +71,20 @@ def legend(drawing, top, cell, body, title):
     return f'<g class="key">{"".join(parts)}</g>', y + MARGIN
 
 
-def draw(play, length, floors, polygons):
+def read_places(path):
+    """The places of each line of a file."""
+    rows = []
+    with open(path, encoding="ascii") as file:
+        for number, line in enumerate(file, 1):
+            words = line.split()
+            if len(words) % 5 or not all(word.isdigit() for word in words):
+                raise Trouble(f"{path}: line {number}: a place is five whole numbers: tile, polygon, x, z, floor")
+            numbers = [int(word) for word in words]
+            rows.append([numbers[first : first + 5] for first in range(0, len(numbers), 5)])
+    return rows
+
+
+def draw(play, length, floors, polygons, places=()):
     """The picture of a published length as one text of SVG."""
     scene = play.scene(length) if length is not None else play.last
     drawing = Drawing([scene], floors, polygons, play.jumps())
@@ -80,6 +98,7 @@ def draw(play, length, floors, polygons):
     body += [drawing.obstacle(obstacle) for obstacle in scene.obstacles]
     body.append('</g><g class="questions">')
     body += [drawing.question(line, scene, mark) for line in play.questions(scene.length)]
+    body += [drawing.places(row, mark) for row in places]
     body.append("</g>")
     storey = f", floors {floors[0]} to {floors[1]}" if floors else ""
     title = f"published length {scene.length}: {scene.polygon_count} polygons, {scene.link_count} links{storey}"
@@ -98,12 +117,14 @@ def main():
     parser.add_argument("-o", "--output", help="the SVG file to write; else standard output")
     parser.add_argument("--length", type=int, metavar="K", help="draw the mesh that was published for the first K entries")
     parser.add_argument("--floors", type=int, nargs=2, metavar=("LOW", "HIGH"), help="draw one storey alone: what has floors from LOW to HIGH")
+    parser.add_argument("--places", metavar="FILE", help="draw places too, a line of joined ones each: tile, polygon, x, z, floor")
     parser.add_argument("--no-polygons", action="store_true", help="leave the polygons out")
     parser.add_argument("--program", metavar="FILE", help="the built program navd_scene (default crates/navd_scene/out/navd_scene)")
     words = parser.parse_args()
     try:
         play = Play(words.input, words.program)
-        text = draw(play, words.length, words.floors, not words.no_polygons)
+        places = read_places(words.places) if words.places else ()
+        text = draw(play, words.length, words.floors, not words.no_polygons, places)
         if words.output:
             with open(words.output, "w", encoding="utf-8") as file:
                 file.write(text)

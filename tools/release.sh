@@ -3,14 +3,14 @@
 # so in one line, ends with 1 and leaves no release. It wants that
 #
 #   - all of it, made twice, is the same bytes
-#   - the archive and the shared object export just the calls of include/navd.h, and tools/header.py --check finds no difference
-#   - the types of the header are those of tools/release/navd.abi (skipped with a line where there is no abidiff, of Debian's abigail-tools)
+#   - the archive and the shared object export just the calls of include/navd.h and navd_world.h, and tools/header.py --check finds no difference
+#   - the types of the headers are those of tools/release/navd.abi (skipped with a line where there is no abidiff, of Debian's abigail-tools)
 #   - no symbol of the C library is newer than 2.17, of the program than 2.34; the shared object has at most 600 KB and needs the C library alone
-#   - hosts that are built over the packages alone find the path of README: in C and C++ by pkg-config, CMake and the Debian packages, in Python by
+#   - hosts that are built over the packages alone find the first path: in C and C++ by pkg-config, CMake and the Debian packages, in Python by
 #     the wheel, in Rust by the crate (skipped with a line where there is no cargo), in C# over the shared object (skipped with a line where
-#     there is no Mono); the program plays that example
+#     there is no Mono); the same hosts turn the doors of hosts/world/doors.c; the program plays that example
 #
-# tools/release/stops.py tries each of these without the toolchain.
+# tools/release/stops.py tries each of these without the toolchain, and tools/release/try_root.sh the tarball in a Debian that has a compiler alone.
 #
 #     tools/release.sh [--arch ARCH] [--out DIR] [--archive LIB] [--program NAVD] [--gate FILE] [--new-abi]
 #
@@ -19,7 +19,7 @@
 # --out      where the release goes; else out/release
 # --archive  what `rt lib` of crates/nav_ffi left, --program what `rt run` of crates/navd left; else they are looked for in these crates
 # --gate     what the gate wrote; its last line is told in the package
-# --new-abi  keeps the types of the header as what later releases are compared with, in tools/release/navd.abi, and makes no release
+# --new-abi  keeps the types of the headers as what later releases are compared with, in tools/release/navd.abi, and makes no release
 #
 # A package says of which commit it is, and its dates are the commit's (SOURCE_DATE_EPOCH, where that is set).
 set -eu

@@ -10,9 +10,9 @@
 #include <stdio.h>
 #include <stdlib.h>
 #include <string.h>
-#include <time.h>
 
 #include "../../include/navd.h"
+#include "common.h"
 
 enum { MOST_PAIRS = 4096, MOST_PATHS = 500, MOST_APART = 100, MOST_ROOM = 1 << 20, STRIDE = 8, MOST_STEPS = 400 };
 
@@ -40,12 +40,6 @@ static void want(int holds, const char *what) {
     if (holds) return;
     fprintf(stderr, "bench_ways: %s\n", what);
     exit(1);
-}
-
-static double seconds(void) {
-    struct timespec now;
-    clock_gettime(CLOCK_PROCESS_CPUTIME_ID, &now);
-    return (double)now.tv_sec + (double)now.tv_nsec / 1e9;
 }
 
 /* A measure: how many calls are made by one run of a function, the least time of three. */

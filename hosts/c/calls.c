@@ -6,6 +6,8 @@
  * handle, requests, builds, jobs and questions, also of a view with costs of its own. A third level has another limit, so that jobs of the first are
  * not its own. The second gets the requests alone that made entries, and is settled at the end. Each call has to
  * end with a status that the header allows there, and the two levels must agree at the end on their counts, floors and paths. */
+#define _POSIX_C_SOURCE 200809L
+
 #include <inttypes.h>
 #include <stdbool.h>
 #include <stdio.h>
@@ -13,12 +15,12 @@
 #include <string.h>
 
 #include "../../include/navd.h"
+#include "common.h"
 
 static uint64_t seed;
 
 static uint32_t pick(uint32_t below) {
-    seed = seed * 6364136223846793005u + 1442695040888963407u;
-    return (uint32_t)((seed >> 33) % below);
+    return pick_by(&seed, below);
 }
 
 /* A number up to `most`, and now and then one above it. */
@@ -398,12 +400,25 @@ static void of_goals(void) {
     if (status != NAVD_OK || plan.links > 4096 || plan.turns > 64) plan = (navd_plan){.way = way}, way = (navd_way){{0, 0}, 0, {0, 0}, 0};
 }
 
+/* What is looked for, and whether it is within its limits. */
+static navd_near anywhere(uint64_t areas) {
+    return (navd_near){areas, {coordinate(), coordinate()}, height(), pick(3) ? pick(200) : number(262143), number(16383), number(16383), number(65535)};
+}
+
+static bool has_coordinates(navd_point p) {
+    return is_way(&(navd_way){p, 0, p, 0});
+}
+
+static bool is_looked_for(const navd_near *near) {
+    return has_coordinates(near->at) && near->reach < 262144 && near->down < 16384 && near->up < 16384 && near->weight < 65536;
+}
+
 /* The nearest place, the height at a point of a polygon, whether a place is one of what may be another mesh by now, and a random place. */
 static void of_places(void) {
     static navd_place kept;
     uint64_t areas = pick(3) ? UINT64_MAX : ~(UINT64_C(1) << pick(64));
-    navd_near near = {areas, {coordinate(), coordinate()}, height(), pick(3) ? pick(200) : number(262143), number(16383), number(16383), number(65535)};
-    bool is_asked = is_way(&(navd_way){near.at, 0, near.at, 0}) && near.reach < 262144 && near.down < 16384 && near.up < 16384 && near.weight < 65536;
+    navd_near near = anywhere(areas);
+    bool is_asked = is_looked_for(&near);
     uint32_t shows, status;
     ENDS(navd_look(&view, &first, &shows), "navd_look", NAVD_OK);
     status = navd_view_is_place(&view, &kept);
@@ -435,6 +450,105 @@ static void of_places(void) {
     if (status == NAVD_OK) ENDS(navd_view_is_place(&view, &place), "the place that is drawn", NAVD_OK);
     else if (place.y != 8192) ENDS(place.y, "a place that is not drawn", 8192);
     ENDS(navd_view_random_place(&view, 0, 0, &place), "navd_view_random_place of no area", NAVD_NO_PLACE);
+}
+
+static int64_t squared(navd_point a, navd_point b) {
+    int64_t x = (int64_t)b.x - a.x, z = (int64_t)b.z - a.z;
+    return x * x + z * z;
+}
+
+/* A straight walk and a slide from a place, which is one of the mesh or not. */
+static void of_moves(const navd_place *from, bool is_place) {
+    navd_point to = pick(3) ? (navd_point){from->at.x + (int32_t)pick(60) - 30, from->at.z + (int32_t)pick(60) - 30}
+                            : (navd_point){coordinate(), coordinate()};
+    navd_ray ray = {.num = 7};
+    navd_place end = {.y = 8192};
+    bool is_asked = has_coordinates(from->at) && has_coordinates(to);
+    uint32_t status = navd_view_cast_ray_from(&view, from, &to, &ray);
+    if (!is_asked) ENDS(status, "navd_view_cast_ray_from", NAVD_OUT_OF_RANGE);
+    else if (is_place) ENDS(status, "navd_view_cast_ray_from", NAVD_OK, NAVD_WALL);
+    else ENDS(status, "navd_view_cast_ray_from no place", NAVD_NO_START);
+    made_by[status]++;
+    if (status == NAVD_WALL && (ray.den <= 0 || ray.num < 0 || ray.num >= ray.den)) ENDS(1, "the part of a straight walk", 0);
+    if (status != NAVD_WALL && ray.num != 7) ENDS(1, "a wall that is not told", 0);
+    bool is_reached = status == NAVD_OK;
+    uint64_t areas = pick(2) ? UINT64_MAX : ~(UINT64_C(1) << pick(64));
+    status = navd_view_slide(&view, from, &to, areas, &end);
+    if (!is_asked) ENDS(status, "navd_view_slide", NAVD_OUT_OF_RANGE);
+    else ENDS(status, "navd_view_slide", is_place ? NAVD_OK : NAVD_NO_START);
+    made_by[status]++;
+    if ((status == NAVD_OK) != (end.y != 8192)) ENDS(end.y, "the end of a slide", 8192);
+    if (status != NAVD_OK) return;
+    ENDS(navd_view_is_place(&view, &end), "the end of a slide", NAVD_OK);
+    if (squared(end.at, to) > squared(from->at, to) || squared(end.at, from->at) > squared(from->at, to)) ENDS(1, "how far a slide leads", 0);
+    if (is_reached && areas == UINT64_MAX && squared(end.at, to)) ENDS(1, "a slide that nothing stops", 0);
+}
+
+/* The walls around a place, which is one of the mesh or not. */
+static void of_walls(const navd_place *from, bool is_place) {
+    navd_around around = {.from = *from, .areas = pick(2) ? UINT64_MAX : ~(UINT64_C(1) << pick(64)), .reach = pick(9) ? pick(120) : number(262143)};
+    navd_wall wall = {.edge = 7}, walls[4];
+    size_t count = 9, room = pick(5);
+    bool is_asked = has_coordinates(from->at) && around.reach < 262144;
+    uint32_t nearest = navd_view_nearest_wall(&view, &around, &wall);
+    uint32_t status = navd_view_walls(&view, &around, walls, room, &count);
+    if (!is_asked) ENDS(nearest, "navd_view_nearest_wall", NAVD_OUT_OF_RANGE), ENDS(status, "navd_view_walls", NAVD_OUT_OF_RANGE);
+    else if (!is_place) ENDS(nearest, "navd_view_nearest_wall", NAVD_NO_START), ENDS(status, "navd_view_walls", NAVD_NO_START);
+    else ENDS(nearest, "navd_view_nearest_wall", NAVD_OK, NAVD_NO_PLACE), ENDS(status, "navd_view_walls", NAVD_OK);
+    made_by[nearest]++, made_by[status]++;
+    if ((nearest == NAVD_OK) != (wall.edge != 7)) ENDS(wall.edge, "a wall that is told", 7);
+    if (status != NAVD_OK && count != 9) ENDS(1, "how many walls there are", 0);
+    if (nearest == NAVD_OK && (!count || wall.num > around.reach * (uint64_t)around.reach * wall.den)) ENDS(1, "a wall within the reach", 0);
+}
+
+/* Ways between places of what may be another mesh by now, and between those nearest to two points. */
+static void of_place_ways(void) {
+    static navd_place from, to;
+    static navd_link links[4096], others[4096];
+    static navd_place corners[4096], other_corners[4096];
+    uint64_t areas = pick(3) ? UINT64_MAX : ~(UINT64_C(1) << pick(64)), most_cost = pick(3) ? UINT64_MAX : pick(3000);
+    size_t most_polygons = pick(3) ? SIZE_MAX : pick(30), room = pick(2) ? 4096 : pick(8), count = pick(3) ? 0 : pick(40) ? 64 : pick(70);
+    uint32_t costs[70], shows, status;
+    for (size_t i = 0; i < count; i++) costs[i] = 1 + pick(1000);
+    ENDS(navd_look(&view, &first, &shows), "navd_look", NAVD_OK);
+    bool is_from = navd_view_is_place(&view, &from) == NAVD_OK, is_to = navd_view_is_place(&view, &to) == NAVD_OK;
+    navd_place_way way = {.from = from, .to = to, .areas = areas, .most_cost = most_cost, .most_polygons = most_polygons, .found = {.links = 5000}};
+    memset(corners, 7, sizeof corners);
+    status = navd_view_find_way(&view, &way, costs, count, links, 4096, corners, room);
+    if (!has_coordinates(from.at) || !has_coordinates(to.at) || (count && count != 64)) ENDS(status, "navd_view_find_way", NAVD_OUT_OF_RANGE);
+    else if (is_from && is_to) ENDS(status, "navd_view_find_way", NAVD_OK, NAVD_LIMIT, NAVD_NO_PATH);
+    else ENDS(status, "navd_view_find_way", is_from ? NAVD_NO_GOAL : NAVD_NO_START);
+    made_by[status]++;
+    if ((status == NAVD_OK) != (way.found.links != 5000)) ENDS(1, "the links of a way between places", 0);
+    if (status == NAVD_OK) {
+        size_t last = way.found.corners - 1;
+        if (way.found.links > 4096 || last - 1 > 4094) ENDS(1, "the links and corners of a way between places", 0);
+        if (room && memcmp(corners, &from, sizeof from)) ENDS(1, "the first corner", 0);
+        if (last < room && memcmp(&corners[last], &to, sizeof to)) ENDS(1, "the last corner", 0);
+        for (size_t i = 0; i <= last && i < room; i++) ENDS(navd_view_is_place(&view, &corners[i]), "a corner", NAVD_OK);
+        for (size_t i = last < room ? last + 1 : room; i < 4096; i++)
+            if (corners[i].y != UINT32_MAX / 255 * 7) ENDS(1, "the room behind corners", 0);
+    }
+    navd_near_way near = {.from = anywhere(areas), .to = anywhere(areas), .areas = areas, .most_cost = most_cost, .most_polygons = most_polygons};
+    bool is_asked = is_looked_for(&near.from) && is_looked_for(&near.to) && (!count || count == 64);
+    status = navd_view_find_way_near(&view, &near, costs, count, others, 4096, other_corners, 4096);
+    made_by[status]++;
+    if (!is_asked) {
+        ENDS(status, "navd_view_find_way_near", NAVD_OUT_OF_RANGE);
+    } else if (navd_view_nearest(&view, &near.from, &way.from) != NAVD_OK) {
+        ENDS(status, "navd_view_find_way_near from nowhere", NAVD_NO_START);
+    } else if (navd_view_nearest(&view, &near.to, &way.to) != NAVD_OK) {
+        ENDS(status, "navd_view_find_way_near to nowhere", NAVD_NO_GOAL);
+    } else {
+        ENDS(navd_view_find_way(&view, &way, costs, count, links, 4096, corners, 4096), "the way between the nearest places", status);
+        if (status == NAVD_OK && memcmp(&way.found.cost, &near.found.cost, sizeof near.found.cost)) ENDS(1, "what the way costs", 0);
+        if (status == NAVD_OK && memcmp(corners, other_corners, near.found.corners * sizeof *corners)) ENDS(1, "its corners", 0);
+    }
+    of_moves(&from, is_from);
+    of_walls(&from, is_from);
+    navd_place drawn;
+    if (navd_view_random_place(&view, areas, (uint64_t)pick(UINT32_MAX) << 32, &drawn) == NAVD_OK) *(pick(2) ? &from : &to) = drawn;
+    if (!pick(30)) from.at = (navd_point){coordinate(), coordinate()};
 }
 
 /* Now and then both histories begin again. */
@@ -587,6 +701,16 @@ static void of_empty(void) {
     ENDS(navd_view_height(&empty_view, &on_mesh), "an empty handle", NAVD_EMPTY);
     ENDS(navd_view_is_place(&empty_view, &on_mesh), "an empty handle", NAVD_EMPTY);
     ENDS(navd_view_random_place(&empty_view, UINT64_MAX, 0, &on_mesh), "an empty handle", NAVD_EMPTY);
+    navd_place_way between = {.from = on_mesh, .to = on_mesh};
+    navd_near_way near_way = {.from = near, .to = near};
+    navd_place end = {.y = 7};
+    navd_point aim = {2, 2};
+    navd_ray cast;
+    ENDS(navd_view_find_way(&empty_view, &between, costs, 0, links, 1, &end, 1), "an empty handle", NAVD_EMPTY);
+    ENDS(navd_view_find_way_near(&empty_view, &near_way, costs, 64, links, 1, &end, 1), "an empty handle", NAVD_EMPTY);
+    ENDS(navd_view_cast_ray_from(&empty_view, &on_mesh, &aim, &cast), "an empty handle", NAVD_EMPTY);
+    ENDS(navd_view_slide(&empty_view, &on_mesh, &aim, UINT64_MAX, &end), "an empty handle", NAVD_EMPTY);
+    if (end.y != 7) ENDS(end.y, "a place of an empty handle", 7);
     if (navd_version() != NAVD_VERSION) ENDS(1, "the version", 0);
     if (told != 7 || count != 7) ENDS(told, "what an empty handle told", 7);
 }
@@ -643,7 +767,7 @@ int main(int argc, char **words) {
         case 5: case 6: pick(5) ? build() : renew(); break;
         case 7: case 8: job(); break;
         case 9: pick(4) ? look() : of_view(); break;
-        case 10: pick(2) ? of_ways() : pick(2) ? of_places() : of_goals(); break;
+        case 10: pick(2) ? of_ways() : pick(3) ? of_place_ways() : pick(2) ? of_places() : of_goals(); break;
         default: question();
         }
     agree();

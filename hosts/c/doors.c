@@ -15,9 +15,9 @@
 #include <stdio.h>
 #include <stdlib.h>
 #include <string.h>
-#include <time.h>
 
 #include "../../include/navd.h"
+#include "common.h"
 
 enum { ROOMS = 16, PITCH = 16, SIDE = ROOMS * PITCH, TILE = 32, TILES = SIDE / TILE * (SIDE / TILE) };
 enum { WALKERS = 500, DOORS = 60, STEPS = 16, SPEED = 12, MOST_LINKS = 1024, FLOOR = 10 };
@@ -50,20 +50,13 @@ static walker walkers[WALKERS];
 static door doors[DOORS];
 
 static uint32_t pick(uint32_t below) {
-    seed = seed * 6364136223846793005u + 1442695040888963407u;
-    return (uint32_t)((seed >> 33) % below);
+    return pick_by(&seed, below);
 }
 
 static void want(bool holds, const char *what) {
     if (holds) return;
     fprintf(stderr, "%s\n", what);
     exit(1);
-}
-
-static double seconds(void) {
-    struct timespec now;
-    clock_gettime(CLOCK_PROCESS_CPUTIME_ID, &now);
-    return (double)now.tv_sec + (double)now.tv_nsec / 1e9;
 }
 
 /* Whether a column is wall: two columns between rooms, but for a gap of four in the middle of each wall, and the rim. */

@@ -17,6 +17,7 @@
 #include <time.h>
 
 #include "../../include/navd.h"
+#include "common.h"
 
 enum { READERS = 4, MOST_REQUESTS = 4000 };
 
@@ -35,11 +36,6 @@ static uint32_t requests;
 static long questions;
 static answer *answers[READERS];
 
-static uint32_t pick(uint64_t *seed, uint32_t below) {
-    *seed = *seed * 6364136223846793005u + 1442695040888963407u;
-    return (uint32_t)((*seed >> 33) % below);
-}
-
 static void want(bool holds, const char *what) {
     if (holds) return;
     fprintf(stderr, "%s\n", what);
@@ -57,8 +53,8 @@ static void *read_on(void *number) {
             want(navd_look(&view, &level, &length) == NAVD_OK, "a look");
             pthread_mutex_unlock(&lock);
         }
-        navd_way way = {{(int32_t)pick(&seed, 16 * width), (int32_t)pick(&seed, 16 * depth)}, 10,
-                        {(int32_t)pick(&seed, 16 * width), (int32_t)pick(&seed, 16 * depth)}, 10};
+        navd_way way = {{(int32_t)pick_by(&seed, 16 * width), (int32_t)pick_by(&seed, 16 * depth)}, 10,
+                        {(int32_t)pick_by(&seed, 16 * width), (int32_t)pick_by(&seed, 16 * depth)}, 10};
         navd_link links[64];
         navd_turn turns[64];
         navd_path path = {0};
@@ -73,7 +69,7 @@ static void *read_on(void *number) {
     return NULL;
 }
 
-static double seconds(void) {
+static double elapsed(void) {
     struct timespec now;
     clock_gettime(CLOCK_MONOTONIC, &now);
     return (double)now.tv_sec + (double)now.tv_nsec / 1e9;
@@ -91,7 +87,7 @@ static void change(navd_level *of, uint32_t number) {
 
 static double run_readers(bool with_changes) {
     pthread_t threads[READERS];
-    double start = seconds();
+    double start = elapsed();
     reading = READERS;
     for (size_t i = 0; i < READERS; i++) want(!pthread_create(&threads[i], NULL, read_on, (void *)(uintptr_t)i), "a thread");
     while (with_changes && requests < MOST_REQUESTS && (reading || requests < 40)) {
@@ -102,7 +98,7 @@ static double run_readers(bool with_changes) {
         nanosleep(&rest, NULL);
     }
     for (size_t i = 0; i < READERS; i++) want(!pthread_join(threads[i], NULL), "a thread's end");
-    return seconds() - start;
+    return elapsed() - start;
 }
 
 /* Every answer is that of the second level at the length that it names. */
@@ -136,8 +132,8 @@ int main(int argc, char **words) {
     navd_fault fault;
     want(navd_open(&level, text, size, &fault) == NAVD_OK && navd_open(&second, text, size, &fault) == NAVD_OK, "an open");
     for (size_t i = 0; i < MOST_REQUESTS; i++) {
-        uint32_t x = pick(&seed, width), z = pick(&seed, depth);
-        uint32_t to_x = x + pick(&seed, 3), to_z = z + pick(&seed, 3);
+        uint32_t x = pick_by(&seed, width), z = pick_by(&seed, depth);
+        uint32_t to_x = x + pick_by(&seed, 3), to_z = z + pick_by(&seed, 3);
         blocks[i] = (navd_block){x, to_x < 1023 ? to_x : 1023, 0, 100, z, to_z < 1023 ? to_z : 1023};
     }
     for (size_t i = 0; i < READERS; i++) want((answers[i] = calloc((size_t)questions, sizeof(answer))) != NULL, "memory");

@@ -7,6 +7,8 @@
  * Then, for FRAMES frames, doors are added, moved, switched, marked and removed at random, with updates of few tiles between; beside the registry stands
  * a table of what each door is, and after each frame the rows, the version, and, once nothing is pending, the ways through the doors have to be as the
  * table says. It ends with 1 where something is not. */
+#define _POSIX_C_SOURCE 200809L
+
 #include <inttypes.h>
 #include <stdbool.h>
 #include <stdio.h>
@@ -14,6 +16,7 @@
 #include <string.h>
 
 #include "../../include/navd.h"
+#include "common.h"
 
 enum { SIDE = 64, LIMIT = 8, KEPT = 64, FLOOR = 10, ALL = 0x7fffffff };
 
@@ -28,8 +31,7 @@ static void want(bool holds, const char *what) {
 }
 
 static uint32_t pick(uint32_t below) {
-    seed = seed * 6364136223846793005u + 1442695040888963407u;
-    return (uint32_t)((seed >> 33) % below);
+    return pick_by(&seed, below);
 }
 
 /* A wall along z at the columns 30 to 33, but for two gaps of six columns, at 8 and at 48. */

@@ -71,7 +71,7 @@ enum class [[nodiscard]] Status : uint32_t {
     no_start = NAVD_NO_START, no_goal = NAVD_NO_GOAL, no_path = NAVD_NO_PATH, wall = NAVD_WALL, no_room = NAVD_NO_ROOM,
     stale = NAVD_STALE, foreign = NAVD_FOREIGN, busy = NAVD_BUSY, too_many_spans = NAVD_TOO_MANY_SPANS,
     partial = NAVD_PARTIAL, limit = NAVD_LIMIT, cut = NAVD_CUT, no_place = NAVD_NO_PLACE,
-    no_obstacle = NAVD_NO_OBSTACLE,
+    no_obstacle = NAVD_NO_OBSTACLE, bad_struct = 23, // the last is of navd_world.h alone
 };
 
 // Whether the library has the version of the header: one that is loaded while the program runs may have another.
@@ -88,6 +88,8 @@ public:
     template <class List> Array(const List &list) : at(std::data(list)), count(std::size(list)) {}
     const T *data() const noexcept { return at; }
     size_t size() const noexcept { return count; }
+    const T *begin() const noexcept { return at; }
+    const T *end() const noexcept { return at + count; }
 
 private:
     const T *at = nullptr;
@@ -101,6 +103,13 @@ struct Path {
     navd_polygon first{};
     std::vector<navd_link> links;
     std::vector<navd_turn> turns;
+};
+
+// A way between two places, which are the first of its corners and the last.
+struct PlaceWay {
+    uint64_t cost = 0;
+    std::vector<navd_link> links;
+    std::vector<navd_place> corners;
 };
 
 // The areas that may be entered, bit a for area a, and costs by area for one question, or none for those of the view.
@@ -521,7 +530,55 @@ public:
         return Status{navd_view_random_place(&handle, areas, draw, &place)};
     }
 
+    // A cheapest way between two places through a filter, within limits. After Status::no_start or Status::no_goal a place is none of the mesh.
+    Status find_way(const navd_place &from, const navd_place &to, const Filter &filter, Limits &limits, PlaceWay &way) {
+        navd_place_way told{};
+        told.from = from;
+        told.to = to;
+        return joined(navd_view_find_way, told, filter, limits, way);
+    }
+    // The same between the places nearest to two points. After Status::no_start or Status::no_goal none is in reach.
+    Status find_way_near(const navd_near &from, const navd_near &to, const Filter &filter, Limits &limits, PlaceWay &way) {
+        navd_near_way told{};
+        told.from = from;
+        told.to = to;
+        return joined(navd_view_find_way_near, told, filter, limits, way);
+    }
+    // The straight walk from a place toward a point.
+    Status cast_ray_from(const navd_place &from, navd_point to, navd_ray &ray) noexcept {
+        return Status{navd_view_cast_ray_from(&handle, &from, &to, &ray)};
+    }
+    // Where a move from a place toward a point ends, along walls; `end` may be `from` itself. It is for steps of a cell or so, in whole sixteenths: who moves
+    // less than one a step keeps the rest.
+    Status slide(const navd_place &from, navd_point to, uint64_t areas, navd_place &end) noexcept {
+        const navd_place start = from;
+        return Status{navd_view_slide(&handle, &start, &to, areas, &end)};
+    }
+    // The wall nearest to a place, and all walls around it.
+    Status nearest_wall(const navd_around &around, navd_wall &wall) noexcept {
+        return Status{navd_view_nearest_wall(&handle, &around, &wall)};
+    }
+    Status walls(const navd_around &around, std::vector<navd_wall> &walls) {
+        return detail::all(walls, [&](navd_wall *to, size_t *count) { return navd_view_walls(&handle, &around, to, *count, count); });
+    }
+
 private:
+    template <class Call, class Way> Status joined(Call call, Way &told, const Filter &filter, Limits &limits, PlaceWay &way) {
+        told.areas = filter.areas;
+        told.most_cost = limits.most_cost;
+        told.most_polygons = limits.most_polygons;
+        const Status status =
+            detail::both(way.links, way.corners, [&](navd_link *links, size_t &count, navd_place *corners, size_t &others) {
+                const uint32_t end = call(&handle, &told, detail::address(filter.costs.data()), filter.costs.size(), links, count, corners, others);
+                count = told.found.links;
+                others = told.found.corners;
+                return end;
+            });
+        way.cost = told.found.cost;
+        limits.seen = told.found.seen;
+        return status;
+    }
+
     Status planned(navd_plan &told, const Filter &filter, Limits &limits, Path &path) {
         uint32_t end = NAVD_OK;
         told.areas = filter.areas;

@@ -419,6 +419,50 @@ namespace Navd
         public uint Y, Reach, Down, Up, Weight;
     }
 
+    /// <summary>Where walls are looked for: around a place, within a reach, and over polygons of which areas.</summary>
+    [StructLayout(LayoutKind.Sequential)]
+    public struct Around
+    {
+        public Place From;
+        public uint Reach;
+        public ulong Areas;
+    }
+
+    /// <summary>A wall on an edge of a polygon, which lies to its left; Num / Den is the square of how far it is.</summary>
+    [StructLayout(LayoutKind.Sequential)]
+    public struct Wall
+    {
+        public Polygon Polygon;
+        public Point Begin, End;
+        public ulong Num, Den;
+        public uint Edge;
+    }
+
+    [StructLayout(LayoutKind.Sequential)]
+    internal struct NavdFoundWay
+    {
+        internal ulong Cost, Seen;
+        internal UIntPtr Links, Corners;
+    }
+
+    [StructLayout(LayoutKind.Sequential)]
+    internal struct NavdPlaceWay
+    {
+        internal Place From, To;
+        internal ulong Areas, MostCost;
+        internal UIntPtr MostPolygons;
+        internal NavdFoundWay Found;
+    }
+
+    [StructLayout(LayoutKind.Sequential)]
+    internal struct NavdNearWay
+    {
+        internal Near From, To;
+        internal ulong Areas, MostCost;
+        internal UIntPtr MostPolygons;
+        internal NavdFoundWay Found;
+    }
+
     /// <summary>The first line of a text that fails, from 1, and the kind of its fault.</summary>
     [StructLayout(LayoutKind.Sequential)]
     public struct Fault
@@ -602,6 +646,20 @@ namespace Navd
         internal static extern Status navd_view_is_place(ViewHandle view, ref Place place);
         [DllImport(Library)]
         internal static extern Status navd_view_random_place(ViewHandle view, ulong areas, ulong draw, ref Place place);
+        [DllImport(Library)]
+        internal static extern Status navd_view_find_way(ViewHandle view, ref NavdPlaceWay way, uint[] costs, UIntPtr costsCount,
+            [Out] Link[] links, UIntPtr linksRoom, [Out] Place[] corners, UIntPtr cornersRoom);
+        [DllImport(Library)]
+        internal static extern Status navd_view_find_way_near(ViewHandle view, ref NavdNearWay way, uint[] costs, UIntPtr costsCount,
+            [Out] Link[] links, UIntPtr linksRoom, [Out] Place[] corners, UIntPtr cornersRoom);
+        [DllImport(Library)]
+        internal static extern Status navd_view_cast_ray_from(ViewHandle view, ref Place from, ref Point to, ref Ray ray);
+        [DllImport(Library)]
+        internal static extern Status navd_view_slide(ViewHandle view, ref Place from, ref Point to, ulong areas, ref Place end);
+        [DllImport(Library)]
+        internal static extern Status navd_view_nearest_wall(ViewHandle view, ref Around around, ref Wall wall);
+        [DllImport(Library)]
+        internal static extern Status navd_view_walls(ViewHandle view, ref Around around, [Out] Wall[] walls, UIntPtr room, out UIntPtr count);
     }
 
     /// <summary>The version, as major * 10000 + minor * 100 + patch: of this file, and of the library.</summary>
@@ -626,6 +684,12 @@ namespace Navd
             Marshal.StructureToPtr(new Handle(), handle, false);
         }
 
+        /// <summary>The place of a handle that another owner has.</summary>
+        protected Owned(IntPtr place) : base(IntPtr.Zero, true)
+        {
+            SetHandle(place);
+        }
+
         public override bool IsInvalid
         {
             get { return handle == IntPtr.Zero; }
@@ -647,8 +711,16 @@ namespace Navd
         }
     }
 
-    internal sealed class ViewHandle : Owned
+    internal class ViewHandle : Owned
     {
+        internal ViewHandle()
+        {
+        }
+
+        protected ViewHandle(IntPtr place) : base(place)
+        {
+        }
+
         protected override bool ReleaseHandle()
         {
             Native.navd_view_close(handle);
@@ -758,6 +830,14 @@ namespace Navd
         public Polygon First;
         public readonly Room<Link> Links = new Room<Link>();
         public readonly Room<Turn> Turns = new Room<Turn>();
+    }
+
+    /// <summary>A way between two places, which are the first of its corners and the last.</summary>
+    public sealed class PlaceWay
+    {
+        public ulong Cost;
+        public readonly Room<Link> Links = new Room<Link>();
+        public readonly Room<Place> Corners = new Room<Place>();
     }
 
     /// <summary>The areas that may be entered, bit a for area a, and costs by area for one question, or none for those of the view.</summary>
@@ -1059,6 +1139,10 @@ namespace Navd
         {
         }
 
+        internal View(ViewHandle handle) : base(null, handle)
+        {
+        }
+
         public Status Look(Level level, out uint published)
         {
             return Native.navd_look(view, level.level, out published);
@@ -1239,6 +1323,78 @@ namespace Navd
         public Status RandomPlace(ulong areas, ulong draw, ref Place place)
         {
             return Native.navd_view_random_place(view, areas, draw, ref place);
+        }
+
+        /// <summary>A cheapest way between two places through a filter, within limits as those of Plan. After Status.NoStart or Status.NoGoal a place is
+        /// none of the mesh.</summary>
+        public Status FindWay(Place from, Place to, Filter filter, ulong mostCost, uint mostPolygons, PlaceWay way, out ulong seen)
+        {
+            Status status;
+            bool found;
+            uint[] costs = Given.Items(filter.Costs, "filter.Costs");
+            Room<Link> links = way.Links;
+            Room<Place> corners = way.Corners;
+            var told = new NavdPlaceWay { From = from, To = to, Areas = filter.Areas, MostCost = mostCost, MostPolygons = Given.Limit(mostPolygons) };
+            do
+            {
+                status = Native.navd_view_find_way(view, ref told, costs, Given.Length(filter.Costs), links.Items, links.Length, corners.Items,
+                    corners.Length);
+                found = status == Status.Ok;
+            } while (!links.Takes(found, told.Found.Links) | !corners.Takes(found, told.Found.Corners));
+            way.Cost = told.Found.Cost;
+            seen = told.Found.Seen;
+            return status;
+        }
+
+        /// <summary>The same between the places nearest to two points. After Status.NoStart or Status.NoGoal none is in reach.</summary>
+        public Status FindWayNear(Near from, Near to, Filter filter, ulong mostCost, uint mostPolygons, PlaceWay way, out ulong seen)
+        {
+            Status status;
+            bool found;
+            uint[] costs = Given.Items(filter.Costs, "filter.Costs");
+            Room<Link> links = way.Links;
+            Room<Place> corners = way.Corners;
+            var told = new NavdNearWay { From = from, To = to, Areas = filter.Areas, MostCost = mostCost, MostPolygons = Given.Limit(mostPolygons) };
+            do
+            {
+                status = Native.navd_view_find_way_near(view, ref told, costs, Given.Length(filter.Costs), links.Items, links.Length, corners.Items,
+                    corners.Length);
+                found = status == Status.Ok;
+            } while (!links.Takes(found, told.Found.Links) | !corners.Takes(found, told.Found.Corners));
+            way.Cost = told.Found.Cost;
+            seen = told.Found.Seen;
+            return status;
+        }
+
+        /// <summary>The straight walk from a place toward a point.</summary>
+        public Status CastRayFrom(Place from, Point to, ref Ray ray)
+        {
+            return Native.navd_view_cast_ray_from(view, ref from, ref to, ref ray);
+        }
+
+        /// <summary>Where a move from a place toward a point ends, along walls. It is for steps of a cell or so, in whole sixteenths: who moves less than one
+        /// a step keeps the rest.</summary>
+        public Status Slide(Place from, Point to, ulong areas, ref Place end)
+        {
+            return Native.navd_view_slide(view, ref from, ref to, areas, ref end);
+        }
+
+        /// <summary>The wall nearest to a place. Status.NoPlace: there is none within the reach.</summary>
+        public Status NearestWall(Around around, ref Wall wall)
+        {
+            return Native.navd_view_nearest_wall(view, ref around, ref wall);
+        }
+
+        /// <summary>All walls within the reach of a place.</summary>
+        public Status Walls(Around around, Room<Wall> walls)
+        {
+            Status status;
+            UIntPtr count;
+            do
+            {
+                status = Native.navd_view_walls(view, ref around, walls.Items, walls.Length, out count);
+            } while (!walls.Takes(status == Status.Ok, count));
+            return status;
         }
 
         public Status Count(out Shown shown)

@@ -217,6 +217,26 @@ class _Near(Structure):
                 ("weight", c_uint32)]
 
 
+class _Around(Structure):
+    _fields_ = [("from_", _Place), ("reach", c_uint32), ("areas", c_uint64)]
+
+
+class _Wall(Structure):
+    _fields_ = [("polygon", _Polygon), ("begin", _Point), ("end", _Point), ("num", c_uint64), ("den", c_uint64), ("edge", c_uint32)]
+
+
+class _FoundWay(Structure):
+    _fields_ = [("cost", c_uint64), ("seen", c_uint64), ("links", c_size_t), ("corners", c_size_t)]
+
+
+class _PlaceWay(Structure):
+    _fields_ = [("from_", _Place), ("to", _Place), ("areas", c_uint64), ("most_cost", c_uint64), ("most_polygons", c_size_t), ("found", _FoundWay)]
+
+
+class _NearWay(Structure):
+    _fields_ = [("from_", _Near), ("to", _Near), ("areas", c_uint64), ("most_cost", c_uint64), ("most_polygons", c_size_t), ("found", _FoundWay)]
+
+
 class _Fault(Structure):
     _fields_ = [("line", c_uint32), ("kind", c_uint32)]
 
@@ -419,6 +439,25 @@ class MeshPlace:
 
 
 @dataclass(frozen=True)
+class WallPart:
+    """A wall: a part of an edge of a polygon, which lies to its left; num / den is the square of how far it is, in sixteenths of a cell."""
+    polygon: Polygon
+    edge: int
+    begin: tuple[int, int]
+    end: tuple[int, int]
+    num: int
+    den: int
+
+
+@dataclass(frozen=True)
+class PlaceWay:
+    """A way between two places: its corners are MeshPlaces, of which these two are the first and the last."""
+    cost: int
+    links: list[Link]
+    corners: list[MeshPlace]
+
+
+@dataclass(frozen=True)
 class Partial:
     """A way to the nearest place: no place is nearer to which a way leads that costs, with the straight rest, less than `seen`; a way to the goal, if there
     is one, costs at least that."""
@@ -479,8 +518,12 @@ class Counts:
     links: int
 
 
+def _loaded():
+    return ctypes.CDLL(os.environ.get("NAVD_LIBRARY", str(Path(__file__).with_name("libnavd.so"))))
+
+
 def _library():
-    found = ctypes.CDLL(os.environ.get("NAVD_LIBRARY", str(Path(__file__).with_name("libnavd.so"))))
+    found = _loaded()
     handle, number, count = POINTER(_Handle), POINTER(c_uint32), POINTER(c_size_t)
     hop = [handle, POINTER(_Hop), POINTER(_Jump), c_size_t, POINTER(_Step), c_size_t, POINTER(_Turn), c_size_t]
     send = [handle, POINTER(_Way), POINTER(_Link), c_size_t, POINTER(_Walker)]
@@ -546,6 +589,12 @@ def _library():
         "navd_view_height": [handle, POINTER(_Place)],
         "navd_view_is_place": [handle, POINTER(_Place)],
         "navd_view_random_place": [handle, c_uint64, c_uint64, POINTER(_Place)],
+        "navd_view_find_way": [handle, POINTER(_PlaceWay), number, c_size_t, POINTER(_Link), c_size_t, POINTER(_Place), c_size_t],
+        "navd_view_find_way_near": [handle, POINTER(_NearWay), number, c_size_t, POINTER(_Link), c_size_t, POINTER(_Place), c_size_t],
+        "navd_view_cast_ray_from": [handle, POINTER(_Place), POINTER(_Point), POINTER(_Ray)],
+        "navd_view_slide": [handle, POINTER(_Place), POINTER(_Point), c_uint64, POINTER(_Place)],
+        "navd_view_nearest_wall": [handle, POINTER(_Around), POINTER(_Wall)],
+        "navd_view_walls": [handle, POINTER(_Around), POINTER(_Wall), c_size_t, POINTER(c_size_t)],
     }.items():
         call = getattr(found, name)
         call.argtypes, call.restype = words, c_uint32
@@ -615,6 +664,25 @@ def _link_of(it):
 
 def _place_of(place):
     return _Place(_polygon_of(place.polygon), _Point(place.at.x, place.at.z), place.at.y)
+
+
+def _mesh_place(told):
+    return MeshPlace(_polygon(told.polygon), Place(told.at.x, told.at.z, told.y))
+
+
+def _wall(told):
+    return WallPart(_polygon(told.polygon), told.edge, _point(told.begin), _point(told.end), told.num, told.den)
+
+
+def _ray(status, ray):
+    """A Reached, a Wall or a NoPath."""
+    if status == OK:
+        return Reached(_polygon(ray.last))
+    if status == WALL:
+        return Wall(_point(ray.a), _point(ray.b), ray.num, ray.den)
+    if status == NO_START:
+        return NoPath(status)
+    raise NavdError(status)
 
 
 def _is_there(status):
@@ -751,14 +819,7 @@ class _Asked:
         """A Reached, a Wall or a NoPath."""
         way = _Way(_Point(start.x, start.z), start.y, _Point(goal.x, goal.z), 0)
         ray = _Ray()
-        status = self._call("cast_ray")(byref(self._handle), byref(way), byref(ray))
-        if status == OK:
-            return Reached(_polygon(ray.last))
-        if status == WALL:
-            return Wall(_point(ray.a), _point(ray.b), ray.num, ray.den)
-        if status == NO_START:
-            return NoPath(status)
-        raise NavdError(status)
+        return _ray(self._call("cast_ray")(byref(self._handle), byref(way), byref(ray)), ray)
 
 
 class Level(_Asked):
@@ -1055,9 +1116,7 @@ class View(_Asked):
         """The MeshPlace nearest to a Place, or None where none is in reach: `reach` in the plane, in sixteenths of a cell, `down` and `up` in height units.
         A height unit beyond the agent's climb counts as `weight` sixteenths."""
         near, told = _Near(areas, _Point(to.x, to.z), to.y, reach, down, up, weight), _Place()
-        if _is_there(self._calls.navd_view_nearest(byref(self._handle), byref(near), byref(told))):
-            return MeshPlace(_polygon(told.polygon), Place(told.at.x, told.at.z, told.y))
-        return None
+        return _mesh_place(told) if _is_there(self._calls.navd_view_nearest(byref(self._handle), byref(near), byref(told))) else None
 
     def height(self, place):
         """The highest floor at the point of a MeshPlace in its polygon, or None where the polygon does not hold the point."""
@@ -1075,7 +1134,72 @@ class View(_Asked):
         status = self._calls.navd_view_random_place(byref(self._handle), areas, draw, byref(told))
         if status == CUT:
             return CUT
-        return MeshPlace(_polygon(told.polygon), Place(told.at.x, told.at.z, told.y)) if _is_there(status) else None
+        return _mesh_place(told) if _is_there(status) else None
+
+    def _found_way(self, call, way, costs):
+        told, corners = _array(c_uint32, costs), (_Place * 64)()
+        while True:
+            status = call(byref(self._handle), byref(way), told, len(costs), self._links, len(self._links), corners, len(corners))
+            if status in (NO_START, NO_GOAL, NO_PATH):
+                return NoPath(status)
+            if status == LIMIT:
+                return Limited(way.found.seen)
+            if status:
+                raise NavdError(status)
+            found = way.found
+            if found.links <= len(self._links) and found.corners <= len(corners):
+                return PlaceWay(found.cost, [_link(it) for it in self._links[:found.links]], [_mesh_place(it) for it in corners[:found.corners]])
+            self._links, corners = (_Link * max(1, found.links))(), (_Place * max(1, found.corners))()
+
+    def find_way(self, start, goal, areas=all_areas, costs=(), most_cost=2**64 - 1, most_polygons=c_size_t(-1).value):
+        """A cheapest PlaceWay from a MeshPlace to another through a filter, as that of `plan`; or a Limited, or a NoPath, as where one is none of the
+        mesh."""
+        way = _PlaceWay(_place_of(start), _place_of(goal), areas, most_cost, most_polygons)
+        return self._found_way(self._calls.navd_view_find_way, way, costs)
+
+    def find_way_near(self, start, goal, reach=64, down=28, up=28, weight=4, areas=all_areas, costs=(), most_cost=2**64 - 1,
+                      most_polygons=c_size_t(-1).value):
+        """The same between the MeshPlaces nearest to two Places, as `nearest` finds them; a NoPath also where none is in reach."""
+        ends = [_Near(areas, _Point(it.x, it.z), it.y, reach, down, up, weight) for it in (start, goal)]
+        return self._found_way(self._calls.navd_view_find_way_near, _NearWay(*ends, areas, most_cost, most_polygons), costs)
+
+    def cast_ray_from(self, place, to):
+        """How the straight walk from a MeshPlace toward a Place ends: a Reached, a Wall, or a NoPath, where it is none of the mesh."""
+        ray = _Ray()
+        return _ray(self._calls.navd_view_cast_ray_from(byref(self._handle), byref(_place_of(place)), byref(_Point(to.x, to.z)), byref(ray)), ray)
+
+    def slide(self, place, to, areas=all_areas):
+        """The MeshPlace where a slide from a MeshPlace toward a Place ends, along walls, or a NoPath, where it is none of the mesh. It is for steps of a
+        cell or so, in whole sixteenths: who moves less than one a step keeps the rest."""
+        end = _Place()
+        status = self._calls.navd_view_slide(byref(self._handle), byref(_place_of(place)), byref(_Point(to.x, to.z)), areas, byref(end))
+        if status == NO_START:
+            return NoPath(status)
+        if status:
+            raise NavdError(status)
+        return _mesh_place(end)
+
+    def nearest_wall(self, place, reach, areas=all_areas):
+        """The WallPart nearest to a MeshPlace, within a reach in sixteenths; None where there is none, or a NoPath, where the place is none of the mesh."""
+        wall = _Wall()
+        status = self._calls.navd_view_nearest_wall(byref(self._handle), byref(_Around(_place_of(place), reach, areas)), byref(wall))
+        if status == NO_PLACE:
+            return None
+        if status == NO_START:
+            return NoPath(status)
+        if status:
+            raise NavdError(status)
+        return _wall(wall)
+
+    def walls(self, place, reach, areas=all_areas):
+        """All WallParts within a reach of a MeshPlace, in order, or a NoPath, where the place is none of the mesh."""
+        around = _Around(_place_of(place), reach, areas)
+        try:
+            return [_wall(it) for it in _all(_Wall, lambda *room: self._calls.navd_view_walls(byref(self._handle), byref(around), *room))]
+        except NavdError as end:
+            if end.status == NO_START:
+                return NoPath(NO_START)
+            raise
 
     def shown(self):
         """How many entries it shows, and how many tiles there are."""

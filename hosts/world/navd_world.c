@@ -1,6 +1,6 @@
-/* The calls of include/navd_world.h, over those of include/navd.h. Built with the host:
+/* The calls of include/navd_world.h, over those of include/navd.h. The libraries of a package have them; over the archive that `rt lib` leaves:
  *
- *     cc -std=c11 -Iinclude host.c hosts/world/navd_world.c libnavd.a
+ *     cc -std=c11 -Iinclude host.c hosts/world/navd_world.c hosts/c/heap.c libnav_ffi.a -pthread
  *
  * Numbers turn into sixteenths of a cell by the library's own law. What is worked out here besides are the agent's numbers, the slope, the corners of
  * turned boxes and the heights of obstacles: by sums, products and quotients of doubles, which are alike on every machine. */

@@ -5,6 +5,8 @@
  * Each frame changes one of 60 doors between 25 rooms and builds up to three tiles; in some frames one memory request of 64 is refused to it. The threads
  * refresh snapshots of their own and ask for ways and rays. Wanted are: ids that are never given twice, rows as they were asked for, versions
  * that never fall, ways that begin and end where they were asked for, and in the end the answers of a world whose doors are put up at once. */
+#define _POSIX_C_SOURCE 200809L
+
 #include <math.h>
 #include <pthread.h>
 #include <stdatomic.h>
@@ -13,6 +15,7 @@
 #include <stdlib.h>
 
 #include "navd_world.h"
+#include "../c/common.h"
 
 enum { ROOMS = 5, ROOM = 12, SIDE = ROOMS * ROOM, DOORS = 60, READERS = 4, QUESTIONS = 200, MOST_QUADS = 1 + 4 * ROOMS * (ROOMS - 1) };
 
@@ -25,18 +28,13 @@ typedef struct {
 
 static _Thread_local uint64_t refusing; /* 0, or the state of a generator */
 
-static uint32_t pick(uint64_t *seed, uint32_t below) {
-    *seed = *seed * 6364136223846793005u + 1442695040888963407u;
-    return (uint32_t)((*seed >> 33) % below);
-}
-
 static navd_tried tried(void *block) {
     static char no_block;
     return (navd_tried){block != NULL, block ? block : &no_block};
 }
 
 static bool is_refused(void) {
-    return refusing && pick(&refusing, 64) == 0;
+    return refusing && pick_by(&refusing, 64) == 0;
 }
 
 navd_tried rattle_alloc(size_t size, size_t align) {
@@ -104,19 +102,19 @@ static navd_world *open_rooms(void) {
 
 /* A door of 2 m in a gap, or one that stands in a room, turned. */
 static void shape_door(door *it, uint64_t *seed) {
-    uint32_t wall = 1 + pick(seed, ROOMS - 1), room = pick(seed, ROOMS), way = pick(seed, 3);
+    uint32_t wall = 1 + pick_by(seed, ROOMS - 1), room = pick_by(seed, ROOMS), way = pick_by(seed, 3);
     float along = (float)(wall * ROOM), across = ((float)room + 0.5f) * ROOM;
     it->shape = (navd_shape){.size = sizeof it->shape, .kind = way == 2 ? NAVD_CYLINDER : NAVD_BOX, .half = {0.1f, 1.5f, 1}};
     it->shape.center = way == 0 ? (navd_vec3){along, 1.5f, across} : (navd_vec3){across, 1.5f, along};
     it->shape.yaw = way == 0 ? 0 : 1.5707964f;
-    if (pick(seed, 2)) it->shape.yaw += (float)pick(seed, 1000) * 0.001f, it->shape.center.x += (float)pick(seed, 100) * 0.01f;
+    if (pick_by(seed, 2)) it->shape.yaw += (float)pick_by(seed, 1000) * 0.001f, it->shape.center.x += (float)pick_by(seed, 100) * 0.01f;
 }
 
 /* Asks for one change of a door, and keeps it where it was taken. */
 static void change(navd_world *world, door *it, uint64_t *seed, navd_obstacle_id *last) {
     door wish = *it;
     navd_status status;
-    switch (it->id ? pick(seed, 8) : 8) {
+    switch (it->id ? pick_by(seed, 8) : 8) {
         case 0: status = navd_world_remove(world, it->id), wish.id = 0; break;
         case 1: status = navd_world_set_user(world, it->id, wish.user = *seed); break;
         case 2: case 3: wish.enabled = !it->enabled, status = navd_world_set_enabled(world, it->id, wish.enabled); break;
@@ -150,7 +148,7 @@ static void compare_rows(navd_world *world) {
 /* == Questions == */
 
 static navd_vec3 somewhere(uint64_t *seed) {
-    return (navd_vec3){(float)pick(seed, 16 * SIDE) / 16, 0, (float)pick(seed, 16 * SIDE) / 16};
+    return (navd_vec3){(float)pick_by(seed, 16 * SIDE) / 16, 0, (float)pick_by(seed, 16 * SIDE) / 16};
 }
 
 /* Asks for a way, and gives what it costs, or its status below 0. */
@@ -224,9 +222,9 @@ int main(int argc, char **words) {
     navd_progress progress = {.size = sizeof progress};
     for (int i = 0; i < READERS; i++) want(!pthread_create(&threads[i], NULL, read_on, world), "a thread");
     for (long i = 0; i < frames; i++) {
-        refusing = pick(&seed, 4) ? 0 : seed | 1;
-        change(world, &doors[pick(&seed, DOORS)], &seed, &last);
-        navd_status status = navd_world_update(world, pick(&seed, 4), &progress);
+        refusing = pick_by(&seed, 4) ? 0 : seed | 1;
+        change(world, &doors[pick_by(&seed, DOORS)], &seed, &last);
+        navd_status status = navd_world_update(world, pick_by(&seed, 4), &progress);
         refusing = 0;
         want(status == NAVD_OK || status == NAVD_NO_MEMORY, "an update");
         refused += status == NAVD_NO_MEMORY;

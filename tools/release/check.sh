@@ -8,7 +8,7 @@ check_header() {
     python3 "$top/tools/header.py" --check >"$work/header" 2>&1 || stop "tools/header.py --check: $(head -n 1 "$work/header")"
 }
 
-# The library has no debug data of its own: the types are those of a stub that is made of the header.
+# The library has no debug data of its own: the types are those of a stub that is made of the headers.
 make_stub() {
     python3 "$parts/exports.py" stub >"$work/stub.c"
     "$cc" -g -O0 -shared -fPIC -ffile-prefix-map="$work=." -ffile-prefix-map="$top=." -I"$top/include" -Wl,-soname,$soname \
@@ -19,24 +19,24 @@ keep_abi() {
     command -v abidw >/dev/null || stop "there is no abidw (Debian's abigail-tools)"
     make_stub
     abidw --no-show-locs --no-corpus-path --no-comp-dir-path --out-file "$parts/navd.abi" "$work/stub.so"
-    echo "the types of the header are in tools/release/navd.abi"
+    echo "the types of the headers are in tools/release/navd.abi"
 }
 
 check_abi() {
     if ! command -v abidiff >/dev/null; then
-        echo "skipped, there is no abidiff (Debian's abigail-tools): the types of the header against those of tools/release/navd.abi"
+        echo "skipped, there is no abidiff (Debian's abigail-tools): the types of the headers against those of tools/release/navd.abi"
         return
     fi
     make_stub
     abidiff --no-architecture "$parts/navd.abi" "$work/stub.so" >"$work/abi" 2>&1 ||
-        stop "the header has other types than tools/release/navd.abi: $(grep . "$work/abi" | head -n 1)"
+        stop "the headers have other types than tools/release/navd.abi: $(grep . "$work/abi" | head -n 1)"
 }
 
 # == The libraries ==
 
 same_names() {
     cmp -s "$work/names" "$work/found" ||
-        stop "$1 does not export just the calls of the header: $(diff "$work/names" "$work/found" | grep '^[<>]' | tr '\n' ' ')"
+        stop "$1 does not export just the calls of the headers: $(diff "$work/names" "$work/found" | grep '^[<>]' | tr '\n' ' ')"
 }
 
 check_exports() {
@@ -83,6 +83,14 @@ says() {
     [ "$(cat "$work/told")" = "$first_path" ] || stop "the first path $what is: $(head -n 1 "$work/told")"
 }
 
+# turns WHAT COMMAND..: the command turns the doors.
+turns() {
+    what=$1
+    shift
+    "$@" >"$work/told" 2>"$work/errors" || stop "the doors $what: $(tail -n 1 "$work/errors")"
+    cmp -s "$work/told" "$package/hosts/world/doors.out" || stop "the doors $what: $(diff "$package/hosts/world/doors.out" "$work/told" | head -n 2 | tail -n 1)"
+}
+
 # builds WHAT COMMAND..
 builds() {
     what=$1
@@ -105,6 +113,9 @@ check_tarball() {
         "$package/lib/libnavd.a" -o plain
     says "in C over the archive" $run ./plain
     echo "from unpacking to the first path: $((($(now) - begun) / 1000000)) ms"
+    builds "worlds in C over the archive" "$cc" -std=c11 -Wall -Wextra -Wpedantic -Werror -I"$package/include" "$package/hosts/world/doors.c" \
+        "$package/lib/libnavd.a" -lm -o doors
+    turns "in C over the archive" $run ./doors
     (cd "$package" && sha256sum --quiet -c SHA256SUMS) || stop "SHA256SUMS of the tarball is wrong"
     [ "$program" ] || return 0
     $run "$package/bin/navd" play <"$package/examples/detour.nav" >played || stop "bin/navd does not play examples/detour.nav"
@@ -114,6 +125,9 @@ check_tarball() {
 check_pkg_config() {
     builds "C by pkg-config" "$cc" "$package/first/first.c" -o shared $(PKG_CONFIG_PATH=$package/lib/pkgconfig pkg-config --cflags --libs navd)
     says "in C by pkg-config" env LD_LIBRARY_PATH="$package/lib" $run ./shared
+    builds "worlds in C++ by pkg-config" "$cxx" -std=c++17 "$package/hosts/cpp/doors.cpp" -o doors_cpp \
+        $(PKG_CONFIG_PATH=$package/lib/pkgconfig pkg-config --cflags --libs navd)
+    turns "in C++ by pkg-config" env LD_LIBRARY_PATH="$package/lib" $run ./doors_cpp
 }
 
 check_cmake() {
@@ -133,12 +147,18 @@ check_debian() {
     builds "C over the Debian packages" "$cc" "$package/first/first.c" -o debian/first \
         $(PKG_CONFIG_PATH=$found/pkgconfig pkg-config --cflags --libs navd)
     says "in C over the Debian packages" env LD_LIBRARY_PATH="$found" $run debian/first
+    builds "worlds in C over the Debian packages" "$cc" "$package/hosts/world/doors.c" -o debian/doors \
+        $(PKG_CONFIG_PATH=$found/pkgconfig pkg-config --cflags --libs navd) -lm
+    turns "in C over the Debian packages" env LD_LIBRARY_PATH="$found" $run debian/doors
 }
 
 check_python() {
     python3 -m zipfile -e "$1"/out/*.whl wheel
     says "in Python by the wheel" env PYTHONPATH=wheel python3 -B "$package/first/first.py"
     says "in Python by the tarball" env PYTHONPATH="$package/hosts/python" python3 -B "$package/first/first.py"
+    cp "$package/hosts/python/doors.py" wheel
+    turns "in Python by the wheel" python3 -B wheel/doors.py
+    turns "in Python by the tarball" python3 -B "$package/hosts/python/doors.py"
 }
 
 check_csharp() {
@@ -148,6 +168,8 @@ check_csharp() {
     fi
     builds "C#" mcs -out:first.exe "$package/first/first.cs" "$package/hosts/csharp/Navd.cs"
     says "in C#" env LD_LIBRARY_PATH="$package/lib" mono first.exe
+    builds "worlds in C#" mcs -out:doors.exe "$package/hosts/csharp/Doors.cs" "$package/hosts/csharp/NavdWorld.cs" "$package/hosts/csharp/Navd.cs"
+    turns "in C#" env LD_LIBRARY_PATH="$package/lib" mono doors.exe
 }
 
 check_rust() {
@@ -156,8 +178,9 @@ check_rust() {
         return
     fi
     tar -xzf "$1/out/$name.crate"
-    builds "the crate" cargo build --quiet --offline --manifest-path "$name/Cargo.toml" --example first
+    builds "the crate" cargo build --quiet --offline --manifest-path "$name/Cargo.toml" --examples
     says "in Rust by the crate" "$name/target/debug/examples/first"
+    turns "in Rust by the crate" "$name/target/debug/examples/doors"
 }
 
 check_release() {

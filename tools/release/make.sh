@@ -28,13 +28,14 @@ packed() {
 
 # == The libraries ==
 
-# The archive, and beside its objects the memory over malloc, whose functions are weak: a host's own stand in their place.
+# The archive, and beside its objects the calls of navd_world.h, and the memory over malloc, whose functions are weak: a host's own stand in their place.
 make_archive() {
     mkdir -p "$1/lib" "$1/objects"
     [ -z "$("${tools}ar" t "$archive" | sort | uniq -d)" ] || stop "two objects of the archive have one name"
     (cd "$1/objects" && "${tools}ar" x "$archive")
     "$cc" -std=c11 -O2 -fPIC -fvisibility=hidden -ffile-prefix-map="$top=." -c "$top/hosts/c/heap.c" -o "$1/objects/navd_heap.o"
     "${tools}objcopy" --weaken "$1/objects/navd_heap.o"
+    "$cc" -std=c11 -O2 -fPIC -ffile-prefix-map="$top=." -I"$top/include" -c "$top/hosts/world/navd_world.c" -o "$1/objects/navd_world.o"
     (cd "$1/objects" && "${tools}ar" rcsD "$1/lib/libnavd.a" $(ls | sort))
 }
 
@@ -60,7 +61,7 @@ lay_shared() {
 # lay_static DIR TREE LIB UP: what hosts are built with. UP leads from the folder of the libraries to that above include/.
 lay_static() {
     mkdir -p "$2/$3/pkgconfig" "$2/$3/cmake/navd" "$2/$3/$4/include"
-    cp "$top/include/navd.h" "$top/include/navd_world.h" "$top/hosts/cpp/navd.hpp" "$2/$3/$4/include"
+    cp "$top/include/navd.h" "$top/include/navd_world.h" "$top/hosts/cpp/navd.hpp" "$top/hosts/cpp/navd_world.hpp" "$2/$3/$4/include"
     cp "$1/lib/libnavd.a" "$2/$3"
     ln -s "$soname" "$2/$3/libnavd.so"
     filled navd.pc.in "$2/$3/pkgconfig/navd.pc" "$4"
@@ -190,6 +191,7 @@ make_wheel() {
     told=$1/wheel/$name.dist-info
     mkdir -p "$1/wheel/navd" "$told/licenses"
     cp "$top/hosts/python/navd.py" "$1/wheel/navd/__init__.py"
+    cp "$top/hosts/python/navd_world.py" "$1/wheel"
     cp "$1/lib/libnavd.so.$version" "$1/wheel/navd/libnavd.so"
     cp "$top/LICENSE" "$top/LICENSE-MIT" "$top/LICENSE-APACHE" "$told/licenses"
     filled METADATA.in "$told/METADATA"
@@ -201,7 +203,7 @@ make_wheel() {
 make_crate() {
     tree=$1/crates/$name
     mkdir -p "$tree/native" "$tree/examples"
-    tracked hosts/rust "$tree" Cargo.toml build.rs src
+    tracked hosts/rust "$tree" Cargo.toml build.rs src examples
     cp "$1/lib/libnavd.a" "$tree/native"
     cp "$parts/first/first.rs" "$top/examples/detour.nav" "$tree/examples"
     lay_documents "$tree"

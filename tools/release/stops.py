@@ -1,6 +1,7 @@
 #!/usr/bin/env python3
-"""Tries tools/release.sh without the toolchain: over a stub of the library, which is made of the header and knows the first path alone, it makes a
-release, twice with the same checksums; and for each thing that it wants of one it stops, with the line that names it, and leaves nothing.
+"""Tries tools/release.sh without the toolchain: over a stub of the library, which is made of the header and knows the first path and the doors alone
+(stand_in.c), it makes a release, twice with the same checksums; and for each thing that it wants of one it stops, with the line that names it, and
+leaves nothing.
 
 usage: tools/release/stops.py       ends with 1 where one of these is otherwise
 """
@@ -22,6 +23,7 @@ typedef struct { bool ok; void *block; } navd_tried;
 navd_tried rattle_alloc(size_t size, size_t align);
 void rattle_dealloc(void *block);
 """
+DOORS = (TOP / "tools/release/stand_in.c").read_text()
 # What the stub does in the calls of the first path.
 BODIES = {
     "navd_open": "navd_tried got = rattle_alloc(64, 8); if (!got.ok || !length) return NAVD_FAULTY; level->at = got.block; level->full = 1; "
@@ -43,18 +45,19 @@ def compiled(*words):
         sys.exit(made.stderr)
 
 
-def stub(bodies):
+def stub(bodies, doors):
     """The stub as C, with these bodies in place of its own; a call without one is left out."""
-    text = run(sys.executable, TOP / "tools/release/exports.py", "stub").stdout.replace('#include "navd.h"\n', MEMORY)
-    for name, body in bodies.items():
+    text = run(sys.executable, TOP / "tools/release/exports.py", "exact").stdout.replace('#include "navd.h"\n', MEMORY)
+    known = {name: None for name in re.findall(r"^\w+ (navd_\w+)\(", doors, re.M)}
+    for name, body in (known | bodies).items():
         whole = rf"^(\w+ {name}\([^{{]*\)) \{{.*$"
         text = re.sub(whole, lambda told: f"{told[1]} {{ {body} }}" if body is not None else "", text, flags=re.M)
-    return text
+    return text + doors
 
 
-def archived(folder, bodies, more=""):
+def archived(folder, bodies, more="", doors=DOORS):
     folder.mkdir()
-    (folder / "nav_ffi.c").write_text(stub(BODIES | bodies) + more)
+    (folder / "nav_ffi.c").write_text(stub(BODIES | bodies, doors) + more)
     compiled("-fPIC", f"-I{TOP}/include", "-c", folder / "nav_ffi.c", "-o", folder / "nav_ffi.o")
     run("ar", "rcsD", folder / "libnav_ffi.a", folder / "nav_ffi.o")
     return folder / "libnav_ffi.a"
@@ -90,7 +93,7 @@ def faults(work):
     yield whole, right, TOP, "cc", None
     yield work / "none", right, TOP, "cc", "there is no archive"
     yield whole, work / "none", TOP, "cc", "there is no program"
-    calls = "does not export just the calls of the header:"
+    calls = "does not export just the calls of the headers:"
     yield archived(work / "less", {"navd_prepare": None}), right, TOP, "cc", f"libnavd.so {calls} < navd_prepare"
     yield archived(work / "more", {}, "int navd_more(void) { return 0; }"), right, TOP, "cc", f"libnavd.a {calls} > navd_more"
     new = {"navd_prepare": "struct stat told; return (uint32_t)stat((const char *)level, &told);"}
@@ -100,6 +103,8 @@ def faults(work):
     other = {"navd_find_path": BODIES["navd_find_path"].replace("180", "181")}
     yield archived(work / "other", other), right, TOP, "cc", "the first path in C over the archive is: cost 181"
     yield archived(work / "ends", {"navd_settle": "return NAVD_NO_MEMORY;"}), right, TOP, "cc", "the first path in C over the archive: no path"
+    turned = archived(work / "turned", {}, doors=DOORS.replace("{384, 240}", "{384, 256}"))
+    yield turned, right, TOP, "cc", "the doors in C over the archive: < frame 37, version 7: a way"
     yield whole, program(work / "wrong", played.replace("180", "181")), TOP, "cc", "bin/navd plays examples/detour.nav in another way"
     yield whole, right, copied(work / "header", "include/navd.h", "uint32_t cx, cz, r,", "uint32_t cz, cx, r,"), "cc", "tools/header.py --check"
     yield whole, right, copied(work / "version", "VERSION", "0.1", "0.2"), "cc", "hosts/rust/Cargo.toml has another version"
@@ -107,7 +112,7 @@ def faults(work):
     yield whole, right, told, "cc", "include/navd.h has another version than VERSION"
     if shutil.which("abidiff"):
         moved = copied(work / "abi", "tools/release/navd.abi", "size-in-bits='192'", "size-in-bits='128'")
-        yield whole, right, moved, "cc", "the header has other types"
+        yield whole, right, moved, "cc", "the headers have other types"
     yield whole, right, TOP, work / "cc", "two releases of the same files are not the same bytes"
 
 

@@ -122,6 +122,20 @@ class Pictures(unittest.TestCase):
         self.assertEqual({polygon[1] for polygon in high.values()}, {34})
         self.assertEqual(len(POLYGON.findall(picture(example("bridge"), "--no-polygons"))), 0)
 
+    def test_places(self):
+        with tempfile.NamedTemporaryFile("w", suffix=".places") as places:
+            places.write("0 0 24 24 10 0 0 40 24 10\n0 3 72 72 10\n0 0 24 24 34\n")
+            places.flush()
+            text = picture(example("bridge"), "--places", places.name)
+            self.assertEqual(text.count('class="place" cx='), 5)  # four places and the legend's
+            self.assertEqual(text.count('class="way"'), 2)  # the line of two places and the legend's
+            self.assertIn("<title>place at 72 72, floor 10, polygon 0 3</title>", text)
+            self.assertEqual(picture(example("bridge"), "--floors", 30, 40, "--places", places.name).count("<title>place"), 1)
+            places.write("0 0 24 24\n")
+            places.flush()
+            ran = run("picture.py", example("bridge"), "--places", places.name)
+            self.assertIn("line 4: a place is five whole numbers", ran.stderr)
+
     def test_wrong_words(self):
         with tempfile.NamedTemporaryFile("w", suffix=".nav") as wrong:
             wrong.write("nav 2\n")

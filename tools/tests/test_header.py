@@ -18,7 +18,7 @@ sys.dont_write_bytecode = True
 import header
 
 SOURCES = [path for folder in header.LIBRARY for path in sorted((TOP / folder).glob("*.rt"))]
-FILES = [header.HEADER, header.RUST, header.PYTHON, header.CSHARP, header.CPP, header.VERSION, *(str(path.relative_to(TOP)) for path in SOURCES)]
+FILES = [*header.WORLD_HOSTS, header.WORLD, header.HEADER, header.RUST, header.PYTHON, header.CSHARP, header.CPP, header.VERSION, *(str(path.relative_to(TOP)) for path in SOURCES)]
 PLACES = {"header": "include/", "library": "crates/", "rust": "hosts/rust/", "python": "hosts/python/", "csharp": "hosts/csharp/",
           "cpp": "hosts/cpp/", "file": "VERSION"}
 
@@ -98,7 +98,7 @@ ROWS = [
     # what has another form
     ("header", "#define NAVD_BUSY 17u", "#define NAVD_BUSY (16u + 1u)", "of 25 places like"),
     ("library", "#[repr(C)]\n#[derive(Clone, Copy)]\npub struct NavdRay", "#[repr(C, packed)]\n#[derive(Clone, Copy)]\npub struct NavdRay",
-     "of 47 places like"),
+     "of 52 places like"),
     # C#: each kind of difference once more
     ("csharp", "public uint Tile, Index;", "public uint Index, Tile;", "field 1 of polygon is index: u32, the header has tile: u32"),
     ("csharp", "internal UIntPtr Links, Turns;", "internal ulong Links, Turns;",
@@ -106,7 +106,7 @@ ROWS = [
     ("csharp", "Corner First, Second, Third, Fourth, Fifth, Sixth;", "Corner First, Second, Third, Fourth, Fifth;",
      "field 2 of face is corner: [corner; 5], the header has corner: [corner; 6]"),
     ("csharp", "internal struct NavdHop", "internal struct NavdWalk", "the struct walk is not in the header"),
-    ("csharp", "    [StructLayout(LayoutKind.Sequential)]\n    public struct Ray", "    public struct Ray", "of 44 places like"),
+    ("csharp", "    [StructLayout(LayoutKind.Sequential)]\n    public struct Ray", "    public struct Ray", "of 49 places like"),
     ("csharp", "Wall = 13,", "Wall = 12,", "WALL is 12, the header has 13"),
     ("csharp", "        Busy = 17,\n", "", "the number BUSY is missing"),
     ("csharp", "navd_claim(LevelHandle level, JobHandle job,", "navd_claim(JobHandle job, LevelHandle level,",
@@ -119,10 +119,18 @@ ROWS = [
     ("csharp", "        [DllImport(Library)]\n        internal static extern Status navd_prepare(LevelHandle level);\n", "",
      "the call navd_prepare is missing"),
     ("csharp", "[DllImport(Library)]\n        internal static extern Status navd_aim",
-     '[DllImport("other")]\n        internal static extern Status navd_aim', "of 70 places like"),
+     '[DllImport("other")]\n        internal static extern Status navd_aim', "of 76 places like"),
     # C++: its compiler compares the rest
     ("cpp", "navd_view_find_hop;", "navd_find_hop;", "the call navd_view_find_hop is missing"),
     ("cpp", "stale = NAVD_STALE, ", "", "the number STALE is missing"),
+    # worlds: each host names all their calls
+    ("header", "double navd_route_cost(", "double navd_route_length(",
+     "hosts/rust/src/world_sys.rs: the call navd_route_cost is not in include/navd_world.h"),
+    ("cpp", "navd_world_set_user(world.get(), id, user)", "NAVD_EMPTY", "hosts/cpp/navd_world.hpp: the call navd_world_set_user is missing"),
+    ("csharp", "extern double navd_route_cost(", "extern double navd_route_costs(", "hosts/csharp/NavdWorld.cs: the call navd_route_cost is missing"),
+    ("python", '("navd_world_remove", [held, c_uint64], c_uint32),', "", "hosts/python/navd_world.py: the call navd_world_remove is missing"),
+    ("rust", "pub fn navd_world_mesh(", "pub fn navd_world_meshes(",
+     "hosts/rust/src/world_sys.rs: the call navd_world_meshes is not in include/navd_world.h"),
 ]
 
 
@@ -165,7 +173,7 @@ class Comparing(unittest.TestCase):
     def test_all_agree(self):
         ran = self.run_tool("--check")
         self.assertEqual((ran.returncode, ran.stderr), (0, ""), ran.stdout)
-        self.assertRegex(ran.stdout, r"^the header, the library, .* alike: 70 calls .*, 47 structs .*, 24 status numbers and the version\n$")
+        self.assertRegex(ran.stdout, r"^the header, the library, .* alike: 76 calls .*, 52 structs .*, 24 status numbers and the version\n$")
 
     def test_each_change_is_told(self):
         for place, old, new, due in ROWS:

@@ -16,23 +16,28 @@ mod goals;
 mod heap;
 mod jobs;
 mod looks;
+mod place_ways;
 mod places;
 mod registry;
 mod repairs;
 mod sys;
 mod walks;
 mod ways;
+pub mod world;
+mod world_sys;
 
 use std::fmt;
 use std::ptr::null_mut;
 pub use goals::{Followed, Follower, Found, Nearest};
 pub use jobs::Job;
 pub use looks::{Obstacle, Shape};
+pub use place_ways::{FoundWay, PlaceWay};
 pub use places::{Drawn, MeshPlace, Near};
 pub use registry::{Registry, Row, Solid, Updated};
 pub use repairs::{Repair, Repaired};
 pub use sys::{
     Block, Corner, Counts, Cylinder, Disc, Face, Floor, Jump, Link, Point, Polygon, Prism, Reached, Shown, Turn,
+    Wall,
 };
 pub use walks::{Hop, Step, Walker};
 pub use ways::{Checked, Filter, Limits, Planned};
@@ -285,6 +290,7 @@ unsafe impl Send for Level {}
 unsafe impl Send for View {}
 
 /// What one thread asks while another changes the level: the mesh as it was published at the last look. It outlives its level.
+#[repr(transparent)]
 pub struct View {
     handle: sys::Handle,
 }
@@ -369,7 +375,10 @@ fn path_by(
 fn ray_by(from: Place, to: Point, call: impl FnOnce(*const sys::Way, *mut sys::Ray) -> u32) -> Result<Result<Ray, NoWay>, Error> {
     let way = sys::Way { from: from.at, from_y: from.y, to, to_y: 0 };
     let mut ray = sys::Ray::default();
-    let status = call(&way, &mut ray);
+    ray_told(call(&way, &mut ray), ray)
+}
+
+fn ray_told(status: u32, ray: sys::Ray) -> Result<Result<Ray, NoWay>, Error> {
     match (status, no_way(status)) {
         (_, Some(no_way)) => Ok(Err(no_way)),
         (sys::WALL, _) => Ok(Ok(Ray::Wall { a: ray.a, b: ray.b, num: ray.num, den: ray.den })),

@@ -37,12 +37,18 @@ pub enum Drawn {
     Nowhere,
 }
 
-fn told(place: sys::Place) -> MeshPlace {
+pub(crate) fn told(place: sys::Place) -> MeshPlace {
     MeshPlace { polygon: place.polygon, at: Place { at: place.at, y: place.y } }
 }
 
-fn given(place: MeshPlace) -> sys::Place {
+pub(crate) fn given(place: MeshPlace) -> sys::Place {
     sys::Place { polygon: place.polygon, at: place.at.at, y: place.at.y }
+}
+
+/// What is looked for near a place.
+pub(crate) fn asked(to: Place, near: Near) -> sys::Near {
+    let Near { reach, down, up, weight, areas } = near;
+    sys::Near { areas, at: to.at, y: to.y, reach, down, up, weight }
 }
 
 /// Whether a call ended with a place.
@@ -57,11 +63,9 @@ fn is_there(status: u32) -> Result<bool, Error> {
 impl View {
     /// The nearest place, if one is in reach.
     pub fn nearest(&mut self, to: Place, near: Near) -> Result<Option<MeshPlace>, Error> {
-        let Near { reach, down, up, weight, areas } = near;
-        let asked = sys::Near { areas, at: to.at, y: to.y, reach, down, up, weight };
         let mut place = sys::Place::default();
         // SAFETY: here and below, the handle is this view's, and the places are those of variables.
-        let status = unsafe { sys::navd_view_nearest(&mut self.handle, &asked, &mut place) };
+        let status = unsafe { sys::navd_view_nearest(&mut self.handle, &asked(to, near), &mut place) };
         Ok(is_there(status)?.then(|| told(place)))
     }
 

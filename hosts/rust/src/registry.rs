@@ -109,18 +109,7 @@ impl Registry {
 
     /// The obstacles, by rising ids.
     pub fn rows(&mut self) -> Result<Vec<Row>, Error> {
-        let mut rows = vec![sys::Row::default(); 16];
-        loop {
-            let mut count = 0;
-            done((unsafe { sys::navd_registry_rows(&mut self.handle, rows.as_mut_ptr(), rows.len(), &mut count) }, 0))?;
-            if count <= rows.len() {
-                let told = rows[..count].iter();
-                return Ok(told
-                    .map(|it| Row { id: it.id, user: it.user, enabled: it.enabled != 0, area: it.solid.area, solid: Solid::of(&it.solid) })
-                    .collect());
-            }
-            rows.resize(count, sys::Row::default());
-        }
+        rows_by(|rows, room, count| unsafe { sys::navd_registry_rows(&mut self.handle, rows, room, count) })
     }
 
     /// Builds at most so many tiles of what was asked for, and shows it once all of it is built.
@@ -132,6 +121,22 @@ impl Registry {
             pending: told.pending != 0,
             version: told.version,
         })
+    }
+}
+
+/// Asks for rows until there is room for all of them.
+pub(crate) fn rows_by(mut call: impl FnMut(*mut sys::Row, usize, *mut usize) -> u32) -> Result<Vec<Row>, Error> {
+    let mut rows = vec![sys::Row::default(); 16];
+    loop {
+        let mut count = 0;
+        done((call(rows.as_mut_ptr(), rows.len(), &mut count), 0))?;
+        if count <= rows.len() {
+            let told = rows[..count].iter();
+            return Ok(told
+                .map(|it| Row { id: it.id, user: it.user, enabled: it.enabled != 0, area: it.solid.area, solid: Solid::of(&it.solid) })
+                .collect());
+        }
+        rows.resize(count, sys::Row::default());
     }
 }
 

@@ -456,6 +456,57 @@ pub struct Near {
 }
 
 #[repr(C)]
+#[derive(Clone, Copy)]
+pub struct Around {
+    pub from: Place,
+    pub reach: u32,
+    pub areas: u64,
+}
+
+/// A wall on an edge of a polygon, which lies to its left; num / den is the square of how far it is, in sixteenths of a cell.
+#[repr(C)]
+#[derive(Clone, Copy, Default, Debug, PartialEq, Eq)]
+pub struct Wall {
+    pub polygon: Polygon,
+    pub begin: Point,
+    pub end: Point,
+    pub num: u64,
+    pub den: u64,
+    pub edge: u32,
+}
+
+#[repr(C)]
+#[derive(Clone, Copy, Default)]
+pub struct FoundWay {
+    pub cost: u64,
+    pub seen: u64,
+    pub links: usize,
+    pub corners: usize,
+}
+
+#[repr(C)]
+#[derive(Clone, Copy)]
+pub struct PlaceWay {
+    pub from: Place,
+    pub to: Place,
+    pub areas: u64,
+    pub most_cost: u64,
+    pub most_polygons: usize,
+    pub found: FoundWay,
+}
+
+#[repr(C)]
+#[derive(Clone, Copy)]
+pub struct NearWay {
+    pub from: Near,
+    pub to: Near,
+    pub areas: u64,
+    pub most_cost: u64,
+    pub most_polygons: usize,
+    pub found: FoundWay,
+}
+
+#[repr(C)]
 #[derive(Clone, Copy, Default)]
 pub struct Fault {
     pub line: u32,
@@ -652,4 +703,28 @@ extern "C" {
     pub fn navd_view_height(view: *mut Handle, place: *mut Place) -> u32;
     pub fn navd_view_is_place(view: *mut Handle, place: *const Place) -> u32;
     pub fn navd_view_random_place(view: *mut Handle, areas: u64, draw: u64, place: *mut Place) -> u32;
+    pub fn navd_view_find_way(
+        view: *mut Handle,
+        way: *mut PlaceWay,
+        costs: *const u32,
+        costs_count: usize,
+        links: *mut Link,
+        links_room: usize,
+        corners: *mut Place,
+        corners_room: usize,
+    ) -> u32;
+    pub fn navd_view_find_way_near(
+        view: *mut Handle,
+        way: *mut NearWay,
+        costs: *const u32,
+        costs_count: usize,
+        links: *mut Link,
+        links_room: usize,
+        corners: *mut Place,
+        corners_room: usize,
+    ) -> u32;
+    pub fn navd_view_cast_ray_from(view: *mut Handle, from: *const Place, to: *const Point, ray: *mut Ray) -> u32;
+    pub fn navd_view_slide(view: *mut Handle, from: *const Place, to: *const Point, areas: u64, end: *mut Place) -> u32;
+    pub fn navd_view_nearest_wall(view: *mut Handle, around: *const Around, wall: *mut Wall) -> u32;
+    pub fn navd_view_walls(view: *mut Handle, around: *const Around, walls: *mut Wall, room: usize, count: *mut usize) -> u32;
 }

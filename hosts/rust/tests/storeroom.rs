@@ -1,7 +1,7 @@
 //! A level that is opened, changed, drawn and asked, with a crate across its room.
 use navd::{
-    place, version, Block, Checked, Disc, Drawn, Error, Filter, Jump, Level, Limits, Near, NoWay, Planned, Point, Prism, Ray, Registry,
-    Repair, Repaired, Row, Shape, Solid, VERSION, View,
+    place, version, Block, Checked, Disc, Drawn, Error, Filter, FoundWay, Jump, Level, Limits, Near, NoWay, Planned, Point, Prism, Ray,
+    Registry, Repair, Repaired, Row, Shape, Solid, VERSION, View,
 };
 use std::thread;
 
@@ -125,6 +125,29 @@ fn places_are_found() {
     let Drawn::Place(drawn) = view.random_place(u64::MAX, 1 << 63).unwrap() else { panic!("none is drawn") };
     assert!(view.is_place(drawn).unwrap());
     assert_eq!(view.random_place(0, 1 << 63).unwrap(), Drawn::Nowhere);
+}
+
+#[test]
+fn ways_join_places() {
+    let mut level = Level::open(TEXT).unwrap();
+    let mut view = View::of(&mut level).unwrap();
+    let (start, goal) = (place(40, 40, 10), place(40, 120, 10));
+    let from = view.nearest(start, Near::default()).unwrap().unwrap();
+    let to = view.nearest(goal, Near::default()).unwrap().unwrap();
+    let (all, open) = (Filter::default(), Limits::default());
+    let Ok(FoundWay::Whole(way)) = view.find_way(from, to, all, open).unwrap() else { panic!("no way joins the two") };
+    assert_eq!((way.corners[0], way.corners[way.corners.len() - 1]), (from, to));
+    assert_eq!(view.find_way_near(start, goal, Near::default(), all, open).unwrap(), Ok(FoundWay::Whole(way)));
+    let above = navd::MeshPlace { at: place(40, 40, 11), ..from };
+    assert_eq!(view.find_way(above, to, all, open).unwrap(), Err(NoWay::NoStart));
+    assert_eq!(view.find_way(from, above, all, open).unwrap(), Err(NoWay::NoGoal));
+    assert_eq!(view.find_way_near(start, place(-4096, 40, 10), Near::default(), all, open).unwrap(), Err(NoWay::NoGoal));
+    assert_eq!(view.cast_ray_from(from, from.at.at).unwrap(), Ok(Ray::Reached(from.polygon)));
+    assert_eq!(view.cast_ray_from(above, to.at.at).unwrap(), Err(NoWay::NoStart));
+    assert_eq!(view.slide(from, from.at.at, 0).unwrap(), Ok(from));
+    assert_eq!(view.slide(above, to.at.at, u64::MAX).unwrap(), Err(NoWay::NoStart));
+    let end = view.slide(from, place(-4096, 40, 10).at, u64::MAX).unwrap().unwrap();
+    assert!(view.is_place(end).unwrap() && end.at.at.x < 40);
 }
 
 #[test]
