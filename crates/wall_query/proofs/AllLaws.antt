@@ -6,7 +6,7 @@ use Rattle.std.proofs.lemmas.List.Elements.{Contains-get_or}
 use Rattle.std.proofs.lemmas.List.Sorted.{Contains-permutation, IsPermutation-sym}
 use Rattle.mesh_types.specs.declared.links.PolyRef.{PolyRef}
 use Rattle.mesh_types.specs.declared.mesh.Mesh.{Mesh}
-use Rattle.wall_slide.specs.Slides.{whole}
+use Rattle.wall_slide.specs.Slides.{IsNoFarther, whole}
 use Rattle.wall_query.specs.declared.around.Around.{Around}
 use Rattle.wall_query.specs.declared.questions.Wall.{Wall}
 use Rattle.wall_query.specs.declared.questions.WallQuery.{WallQuery}
@@ -14,6 +14,9 @@ use Rattle.wall_query.specs.declared.questions.WallsQuery.{WallsQuery}
 use Rattle.wall_query.specs.AllWalls.{AreWallsAround}
 use Rattle.wall_query.specs.Around.{IsAround, IsListed}
 use Rattle.wall_query.specs.Walls.{ArePolygonsInOrder, AreWallsOf, IsInReach, IsWallAround, IsWallWithin}
+use Rattle.nav_base.specs.declared.deviation.Deviation.{Deviation}
+use Rattle.nav_base.specs.Deviation.{IsFraction}
+use Rattle.wall_query.proofs.BestLaws.{no_farther_on}
 
 -- what is looked at for all walls
 abbrev pub all_around : WallsQuery → Around
@@ -32,12 +35,14 @@ all_of mesh asked around list sorted walls is listed permuted order are = record
   order = are.order order;
 }
 
--- what is looked at for the nearest wall
-abbrev pub reach_around : WallQuery → Around
-reach_around asked = record { from = asked.from; areas = asked.areas; far = whole (asked.reach * asked.reach) }
-
--- the walls of the polygons that are listed are within the reach
-pub in_reach : (mesh : Mesh) (asked : WallQuery) (around : Around) (list : List PolyRef) (walls : List Wall) → around ≡ reach_around asked
-    → AreWallsOf mesh around list walls → All (IsInReach mesh asked) walls
-in_reach mesh asked around list walls is are k d below =
-    subst (λ (a : Around). IsWallAround mesh a (get_or walls k d)) is ((are.has (get_or walls k d)).0 (Contains-get_or walls k d below)).0
+-- the walls of the polygons that are listed are within the reach, where they are within a distance that is
+pub in_reach : (mesh : Mesh) (asked : WallQuery) (far : Deviation) (list : List PolyRef) (walls : List Wall) → IsFraction far
+    → IsNoFarther far (whole (asked.reach * asked.reach)) → AreWallsOf mesh (record { from = asked.from; areas = asked.areas; far = far }) list walls
+    → All (IsInReach mesh asked) walls
+in_reach mesh asked far list walls is most are k d below =
+    let near = ((are.has (get_or walls k d)).0 (Contains-get_or walls k d below)).0 in
+    record {
+      part = near.part;
+      distance = near.distance;
+      within = no_farther_on (get_or walls k d).far far (whole (asked.reach * asked.reach)) is near.within most;
+    }

@@ -18,7 +18,7 @@ use Rattle.wall_query.specs.declared.around.Around.{Around}
 use Rattle.wall_query.specs.declared.questions.Wall.{Wall}
 use Rattle.wall_query.specs.declared.questions.WallQuery.{WallQuery}
 use Rattle.wall_query.specs.Around.{IsAround, IsListed, PassesNear}
-use Rattle.wall_query.specs.Walls.{HasWallsOf, IsBestOf, IsNearerThan, IsNearestReached, IsReached, IsWallAround, IsWallWithin}
+use Rattle.wall_query.specs.Walls.{HasWallsOf, IsBestOf, IsNearerThan, IsNearestReached, IsNearestWithin, IsReached, IsWallAround, IsWallWithin}
 use Rattle.wall_query.proofs.Listed.{contains_none}
 
 -- ---- the order of distances
@@ -109,23 +109,43 @@ module _ (mesh : Mesh) (asked : WallQuery) where
       ];
     })
 
-  -- all walls that are reached are among those within the reach of the polygons around
-  pub of_all : (around : Around) (list : List PolyRef) (walls : List Wall) (best : Option Wall)
-      → around ≡ record { from = asked.from; areas = asked.areas; far = whole (asked.reach * asked.reach) }
+  -- all walls that are reached and within a distance are among those within it of the polygons around
+  pub of_within : (far : Deviation) (around : Around) (list : List PolyRef) (walls : List Wall) (best : Option Wall)
+      → around ≡ record { from = asked.from; areas = asked.areas; far = far }
       → ((at : PolyRef) → Contains list at ↔ IsListed mesh around at) → HasWallsOf mesh around list walls → IsBestOf mesh asked (Contains walls) best
-      → IsNearestReached mesh asked best
-  of_all around list walls best is listed has so_far = by best so_far
+      → IsNearestWithin mesh asked far best
+  of_within far around list walls best is listed has so_far = by best so_far
     where
-      wide : (wall : Wall) → IsReached mesh asked wall → IsListed mesh around wall.polygon
-      wide wall reached =
+      wide : (wall : Wall) → IsReached mesh asked wall → IsNoFarther wall.far far → IsListed mesh around wall.polygon
+      wide wall reached near =
           subst (λ (a : Around). IsListed mesh a wall.polygon) (sym is)
-          (around_wider mesh asked.areas asked.from wall.far (whole (asked.reach * asked.reach)) wall.polygon
-          (wall_fraction mesh asked.areas asked.from.point _ wall reached.wall_within) reached.wall_within.within reached.around)
+          (around_wider mesh asked.areas asked.from wall.far far wall.polygon
+          (wall_fraction mesh asked.areas asked.from.point _ wall reached.wall_within) near reached.around)
 
-      held : (wall : Wall) → IsReached mesh asked wall → Contains walls wall
-      held wall reached =
-          (has wall).1 (subst (λ (a : Around). IsWallAround mesh a wall) (sym is) reached.wall_within, (listed wall.polygon).1 (wide wall reached))
+      held : (wall : Wall) → IsReached mesh asked wall → IsNoFarther wall.far far → Contains walls wall
+      held wall reached near =
+          (has wall).1 (
+            subst (λ (a : Around). IsWallAround mesh a wall) (sym is)
+                (record { part = reached.wall_within.part; distance = reached.wall_within.distance; within = near }),
+            (listed wall.polygon).1 (wide wall reached near),
+          )
 
-      by : (best : Option Wall) → IsBestOf mesh asked (Contains walls) best → IsNearestReached mesh asked best
-      by None none = λ wall reached. none wall (held wall reached) reached
-      by (Some one) best = (best.reached, λ other reached. best.nearest other (held other reached) reached)
+      by : (best : Option Wall) → IsBestOf mesh asked (Contains walls) best → IsNearestWithin mesh asked far best
+      by None none = λ wall reached near. none wall (held wall reached near) reached
+      by (Some one) best = (best.reached, λ other reached near. best.nearest other (held other reached near) reached)
+
+  -- the nearest within the reach is the nearest
+  pub of_reach : (best : Option Wall) → IsNearestWithin mesh asked (whole (asked.reach * asked.reach)) best → IsNearestReached mesh asked best
+  of_reach None none = λ wall reached. none wall reached reached.wall_within.within
+  of_reach (Some one) best = (best.0, λ other reached. best.1 other reached reached.wall_within.within)
+
+  -- so is the nearest within a distance, where it is itself within that
+  pub of_near : (far : Deviation) (wall : Wall) → IsFraction far → IsNearestWithin mesh asked far (Some wall) → IsNoFarther wall.far far
+      → IsNearestReached mesh asked (Some wall)
+  of_near far wall is nearest near = (
+    nearest.0,
+    λ other reached. elim (cases_lt (far.num * other.far.den) (other.far.num * far.den)) [
+      | inl beyond ↦ no_farther_on wall.far far other.far is near (omega (arith, beyond))
+      | inr within ↦ nearest.1 other reached within
+    ],
+  )

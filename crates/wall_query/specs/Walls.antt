@@ -122,3 +122,9 @@ IsNearerThan wall (Some best) = IsLess wall.far best.far
 abbrev pub IsNearestReached : Mesh → WallQuery → Option Wall → Type 0
 IsNearestReached mesh asked None = (wall : Wall) → IsReached mesh asked wall → ⊥
 IsNearestReached mesh asked (Some wall) = IsReached mesh asked wall × ((other : Wall) → IsReached mesh asked other → IsNoFarther wall.far other.far)
+
+-- a nearest of the walls that are reached and within a distance, or none where none is
+abbrev pub IsNearestWithin : Mesh → WallQuery → Deviation → Option Wall → Type 0
+IsNearestWithin mesh asked far None = (wall : Wall) → IsReached mesh asked wall → IsNoFarther wall.far far → ⊥
+IsNearestWithin mesh asked far (Some wall) =
+    IsReached mesh asked wall × ((other : Wall) → IsReached mesh asked other → IsNoFarther other.far far → IsNoFarther wall.far other.far)

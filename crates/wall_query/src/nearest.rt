@@ -1,19 +1,24 @@
 //! The wall nearest to a place, of those that are reached.
 
-ghost use Rattle.std.specs.Prelude.{◌↔◌, All, Contains, IfOk, IsTrue};
+ghost use Rattle.std.specs.Prelude.{◌↔◌, ◌*◌, All, Contains, IfOk, IsTrue};
+ghost use Rattle.nav_base.specs.Deviation.{IsFraction};
 ghost use Rattle.mesh_types.specs.Places.{IsPlace};
 ghost use Rattle.mesh_types.specs.Soundness.{IsSound};
+ghost use Rattle.wall_slide.specs.Slides.{IsNoFarther, whole};
 ghost use Rattle.wall_query.specs.Around.{IsAround};
-ghost use Rattle.wall_query.specs.Walls.{CanAskWall, IsBestOf, IsInReach, IsNearerThan, IsNearestReached, IsRightWall};
+ghost use Rattle.wall_query.specs.Walls.{CanAskWall, IsBestOf, IsInReach, IsNearerThan, IsNearestReached, IsNearestWithin, IsRightWall};
 
 use crate::around::{Around, gather, has};
-use crate::distances::square_of_reach;
+use crate::distances::{is_no_farther, square_of_reach};
 use crate::questions::{Wall, WallAnswer, WallQuery};
 use crate::walls::walls_of;
 use mesh_place::is_place;
 use mesh_types::{Asked, Mesh};
-use nav_base::less;
+use nav_base::{Deviation, less};
 use std::alloc::{AllocError, Global};
+
+/// How far the nearest wall is looked for first, in sixteenths of a cell.
+const NEAR: u32 = 64;
 
 /// The wall nearest to a place, of those that are reached without going farther from it. Only memory can be refused.
 pub fn nearest_wall(alloc: Global, mesh: &Mesh, asked: &WallQuery) -> Result<WallAnswer, AllocError>
@@ -44,7 +49,8 @@ impl Asked for WallQuery {
     }
 }
 
-/// The nearest wall that is reached from a place, if there is one.
+/// The nearest wall that is reached from a place, if there is one. It is looked for near the place first, so that little of a great reach is gone
+/// through.
 fn nearest_reached(
     alloc: Global,
     mesh: &Mesh,
@@ -54,10 +60,43 @@ fn nearest_reached(
     requires place { IsPlace mesh.now asked.now.from }
     ensures { IfOk result (IsNearestReached mesh.now asked.now) }
 {
+    let reach = square_of_reach(asked.reach);
+    let near = lesser(square_of_reach(NEAR), reach);
+    if let Some(wall) = nearest_within(alloc, mesh, asked, near)? {
+        if is_no_farther(wall.far, near) {
+            return Ok(Some(wall));
+        }
+    }
+    nearest_within(alloc, mesh, asked, reach)
+}
+
+/// The lesser of two distances.
+fn lesser(a: Deviation, b: Deviation) -> Deviation
+    requires first { IsFraction a }
+    requires second { IsFraction b }
+    ensures fraction { IsFraction result }
+    ensures within { IsNoFarther result b }
+{
+    if is_no_farther(a, b) { a } else { b }
+}
+
+/// The nearest wall within a distance that is reached from a place, if there is one.
+fn nearest_within(
+    alloc: Global,
+    mesh: &Mesh,
+    asked: &WallQuery,
+    far: Deviation,
+) -> Result<Option<Wall>, AllocError>
+    requires sound { IsSound mesh.now }
+    requires place { IsPlace mesh.now asked.now.from }
+    requires fraction { IsFraction far }
+    requires within { IsNoFarther far (whole (asked.now.reach * asked.now.reach)) }
+    ensures { IfOk result (IsNearestWithin mesh.now asked.now far) }
+{
     let around = Around {
         from: asked.from,
         areas: asked.areas,
-        far: square_of_reach(asked.reach),
+        far,
     };
     let list = gather(alloc, mesh, &around)?;
     let walls = walls_of(alloc, mesh, &around, list.as_slice())?;

@@ -1,34 +1,20 @@
-use Rattle.std.proofs.Common.{List, sym, subst}
-use Rattle.std.specs.Prelude.{All, Contains}
+use Rattle.std.proofs.Common.{Option, subst}
 use Rattle.std.proofs.lemmas.Result.{IfOk-weaker}
-use Rattle.mesh_types.specs.declared.links.PolyRef.{PolyRef}
-use Rattle.wall_slide.specs.Ends.{IsThere}
+use Rattle.nav_base.specs.declared.deviation.Deviation.{Deviation}
 use Rattle.wall_query.specs.declared.questions.Wall.{Wall}
-use Rattle.wall_query.specs.Walls.{HasWallsOf, IsBestOf, IsInReach}
-use Rattle.wall_query.proofs.AllLaws.{in_reach}
-use Rattle.wall_query.proofs.BestLaws.{of_all}
-use Rattle.wall_query.proofs.GatherLaws.{all_there}
+use Rattle.wall_query.specs.Walls.{IsNearestWithin}
+use Rattle.wall_query.proofs.BestLaws.{of_near, of_reach}
 use Rattle.wall_query.proofs.nearest.nearest_reached.Goals as goal
 
-pub walls_of-requires-clause-list : goal.walls_of-requires-clause-list
-walls_of-requires-clause-list c =
-    subst (All (IsThere c.args.mesh.now)) (sym c.as_slice.ensures.value)
-    (all_there c.args.mesh.now (record { from = c.args.asked.now.from; areas = c.args.asked.now.areas; far = c.square_of_reach.result }) c.in_ok-list.list.items
-    c.requires.place.held (λ at held. (c.in_ok-list.ensures at).0 held))
-
-pub nearest_of-requires-clause-walls : goal.nearest_of-requires-clause-walls
-nearest_of-requires-clause-walls c =
-    subst (All (IsInReach c.args.mesh.now c.args.asked.now)) (sym c.as_slice-2.ensures.value)
-    (in_reach c.args.mesh.now c.args.asked.now _ _ c.in_ok-walls.walls.items
-    (λ i. record { from = c.args.asked.now.from; areas = c.args.asked.now.areas; far = c.square_of_reach.ensures i }) c.in_ok-walls.ensures)
+pub returns-then-is_no_farther : goal.returns-then-is_no_farther
+returns-then-is_no_farther c =
+    of_near c.args.mesh.now c.args.asked.now c.lesser-near.result c.in-Some.wall c.lesser-near.ensures.fraction
+    (subst (λ (wall : Option Wall). IsNearestWithin c.args.mesh.now c.args.asked.now c.lesser-near.result wall) c.in-Some.is c.in_ok-wall.ensures)
+    (c.is_no_farther.ensures.0 c.if-is_no_farther.true)
 
 pub returns : goal.returns
 returns c =
-    IfOk-weaker c.nearest_of.result _ _ (λ best is.
-    of_all c.args.mesh.now c.args.asked.now _ c.in_ok-list.list.items c.in_ok-walls.walls.items best
-    (λ i. record { from = c.args.asked.now.from; areas = c.args.asked.now.areas; far = c.square_of_reach.ensures i })
-    c.in_ok-list.ensures
-    (subst (λ (list : List PolyRef). HasWallsOf c.args.mesh.now (record { from = c.args.asked.now.from; areas = c.args.asked.now.areas; far = c.square_of_reach.result }) list c.in_ok-walls.walls.items)
-    c.as_slice.ensures.value c.in_ok-walls.ensures.has)
-    (subst (λ (walls : List Wall). IsBestOf c.args.mesh.now c.args.asked.now (Contains walls) best) c.as_slice-2.ensures.value is))
-    c.nearest_of.ensures
+    IfOk-weaker c.nearest_within-2.result _ _ (λ best is.
+    of_reach c.args.mesh.now c.args.asked.now best
+    (subst (λ (far : Deviation). IsNearestWithin c.args.mesh.now c.args.asked.now far best) c.square_of_reach-reach.ensures is))
+    c.nearest_within-2.ensures
