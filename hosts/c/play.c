@@ -21,29 +21,8 @@ static bool is_refused(void) {
     return ++allocations == refused_one;
 }
 
-typedef struct {
-    bool ok;
-    void *block;
-} navd_tried;
-
-static char no_block;
-
-static navd_tried tried(void *block) {
-    return (navd_tried){block != NULL, block ? block : &no_block};
-}
-
-navd_tried rattle_alloc(size_t size, size_t align) {
-    return tried(is_refused() ? NULL : malloc(size ? size : align));
-}
-
-navd_tried rattle_realloc(void *block, size_t kept, size_t size, size_t align) {
-    (void)kept;
-    return tried(is_refused() ? NULL : realloc(block, size ? size : align));
-}
-
-void rattle_dealloc(void *block) {
-    free(block);
-}
+#define IS_REFUSED is_refused
+#include "heap.h"
 
 /* == The level, and room for answers that grows as they ask for it == */
 

@@ -19,30 +19,10 @@ static void want(bool holds, const char *what, int line) {
 
 /* == Memory: one request is refused == */
 
-typedef struct {
-    bool ok;
-    void *block;
-} navd_tried;
-
 static long requests, refused;
 
-static navd_tried tried(void *block) {
-    static char no_block;
-    return (navd_tried){block != NULL, block ? block : &no_block};
-}
-
-navd_tried rattle_alloc(size_t size, size_t align) {
-    return tried(++requests == refused ? NULL : malloc(size ? size : align));
-}
-
-navd_tried rattle_realloc(void *block, size_t kept, size_t size, size_t align) {
-    (void)kept;
-    return tried(++requests == refused ? NULL : realloc(block, size ? size : align));
-}
-
-void rattle_dealloc(void *block) {
-    free(block);
-}
+#define IS_REFUSED() (++requests == refused)
+#include "../c/heap.h"
 
 /* == A square of 30 m, in cells of half a metre and height units of a quarter == */
 

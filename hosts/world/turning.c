@@ -21,34 +21,14 @@ enum { ROOMS = 5, ROOM = 12, SIDE = ROOMS * ROOM, DOORS = 60, READERS = 4, QUEST
 
 /* == Memory: one request of 64 is refused while a thread says so == */
 
-typedef struct {
-    bool ok;
-    void *block;
-} navd_tried;
-
 static _Thread_local uint64_t refusing; /* 0, or the state of a generator */
-
-static navd_tried tried(void *block) {
-    static char no_block;
-    return (navd_tried){block != NULL, block ? block : &no_block};
-}
 
 static bool is_refused(void) {
     return refusing && pick_by(&refusing, 64) == 0;
 }
 
-navd_tried rattle_alloc(size_t size, size_t align) {
-    return tried(is_refused() ? NULL : malloc(size ? size : align));
-}
-
-navd_tried rattle_realloc(void *block, size_t kept, size_t size, size_t align) {
-    (void)kept;
-    return tried(is_refused() ? NULL : realloc(block, size ? size : align));
-}
-
-void rattle_dealloc(void *block) {
-    free(block);
-}
+#define IS_REFUSED is_refused
+#include "../c/heap.h"
 
 /* == Rooms with gaps between them, and doors == */
 
