@@ -29,7 +29,7 @@ pub fn storeys(
 {
     let homes = homes(alloc, parts)?;
     let list = storey_list(alloc, source)?;
-    Ok(Storeys::new(homes, list))
+    Storeys::new(alloc, homes, list)
 }
 
 /// For each polygon of parts the number of its region.

@@ -1,6 +1,6 @@
 -- Where tiles of a mesh were replaced, heights over landmarks that are gentle round the tiles whose rows were written are landmarks of it.
-use Rattle.std.proofs.Common.{◌≡◌, ◌≢◌, ℕ, ◌<◌, ◌+◌, ◌-◌, ◌⊎◌, List, [], ◌∷◌, ◌++◌, length, get_or, refl, sym, subst, ap, ◌∙◌, arith, inl, inr}
-use Rattle.std.specs.Prelude.{All, Contains, Option, Some, None, slice_get, slice_set, option_and_then}
+use Rattle.std.proofs.Common.{◌≡◌, ◌≢◌, ℕ, ◌+◌, ◌-◌, ◌⊎◌, List, [], ◌∷◌, ◌++◌, get_or, refl, sym, subst, ap, ◌∙◌, arith, inl, inr}
+use Rattle.std.specs.Prelude.{All, Contains, Some, slice_get, slice_set, option_and_then}
 use Rattle.std.specs.Option.{option_map_or}
 use Rattle.std.proofs.lemmas.Bool.{cases_eq}
 use Rattle.std.proofs.lemmas.List.{get_or-set_other}
@@ -21,7 +21,7 @@ use Rattle.corridor_search.specs.Changes.{AreGentleAround, AreSameBut, DifferIn,
 use Rattle.corridor_search.specs.Islands.{inner_of, outer_of}
 use Rattle.corridor_search.specs.Landmarks.{Heights, flat, heights_at, gap_of, are_alike, AreLandmarks, IsGentle}
 use Rattle.corridor_search.proofs.Beside.{leaves-beside}
-use Rattle.corridor_search.proofs.Sound.{tile-fit, tile-number}
+use Rattle.corridor_search.proofs.Sound.{tile-fit}
 
 -- rows that are written for one tile more
 pub same-more : (written : List ℕ) (old rows : Heights) (tile : ℕ) (own : List (List ℕ)) → AreSameBut written old rows

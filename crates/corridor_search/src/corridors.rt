@@ -13,7 +13,7 @@ use crate::islands::is_cut_off;
 use crate::landmarks::{FLAT, LANDMARKS, Landmarks, are_alike, are_seen};
 use crate::mesh_graph::{MeshGraph, link_at, vertex_at};
 use crate::weights::{extent_at, least_cost, middle};
-use graph_search::{Step, cheapest_walk};
+use graph_search::{Room, Step, cheapest_walk_in};
 use mesh_types::{Corridor, Link, Mesh, PolyRef};
 use nav_lists::Items;
 use std::alloc::{AllocError, Global};
@@ -56,6 +56,28 @@ pub fn cheapest_by(
     ensures none { IfOk result (λ answer. IfNone answer (IsApart mesh.now from to)) }
     ensures few { IfOk result (λ answer. IfSome answer (λ corridor. corridor.cost < 2 ^ 45)) }
 {
+    let mut room = Room::new(alloc);
+    cheapest_in(alloc, &mut room, mesh, landmarks, from, to)
+}
+
+/// The same, in room that an earlier search may have left.
+pub fn cheapest_in(
+    alloc: Global,
+    room: &mut Room,
+    mesh: &Mesh,
+    landmarks: Option<&Landmarks>,
+    from: PolyRef,
+    to: PolyRef,
+) -> Result<Option<Corridor>, AllocError>
+    requires sound { IsSound mesh.now }
+    requires setting { IsSetting mesh.now.setting }
+    requires landmarks { IfSome (option_copied landmarks) (AreLandmarks mesh.now) }
+    requires from { IsThere mesh.now from }
+    requires to { IsThere mesh.now to }
+    ensures found { IfOk result (λ answer. IfSome answer (λ corridor. IsCheapest mesh.now from to corridor)) }
+    ensures none { IfOk result (λ answer. IfNone answer (IsApart mesh.now from to)) }
+    ensures few { IfOk result (λ answer. IfSome answer (λ corridor. corridor.cost < 2 ^ 45)) }
+{
     if is_seen_apart(alloc, mesh, landmarks, from, to)? {
         return Ok(None);
     }
@@ -68,7 +90,7 @@ pub fn cheapest_by(
         landmarks,
         heights,
     };
-    match cheapest_walk(alloc, &graph, vertex_at(from), vertex_at(to))? {
+    match cheapest_walk_in(alloc, room, &graph, vertex_at(from), vertex_at(to))? {
         Some(walk) => {
             let links = links_along(alloc, mesh, walk.steps.as_slice())?;
             let cost = walk.cost;

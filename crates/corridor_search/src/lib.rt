@@ -19,7 +19,7 @@ mod mesh_graph;
 mod ways;
 mod weights;
 
-pub use corridors::{cheapest, cheapest_by};
+pub use corridors::{cheapest, cheapest_by, cheapest_in};
 pub use landmarks::{Landmarks, kept_landmarks, landmarks_of};
 pub use mesh_graph::{link_at, link_weight, past_links, polygon_at, push_link_ends, vertex_at};
 pub use weights::{distance, extent_at, middle, weight_over};

@@ -41,6 +41,7 @@ module _ (vertices : List Vertex) (estimate : Vertex → ℕ) (at : Vertex → V
     entries = of_rest (λ e. IsEntry estimate at e.key e.vertex) known.entries;
     order = λ v is_closed. of_rest (λ e. (at v).cost + estimate v ≤ e.key) (known.order v is_closed);
     within = known.within;
+    estimates = known.estimates;
     ranks = known.ranks;
   }
     where
@@ -67,6 +68,13 @@ module _ (vertices : List Vertex) (estimate : Vertex → ℕ) (at : Vertex → V
           elim (written_or_kept at at' vertex (closed_as (closed + 1) (at vertex)) written v) [
             | inl here ↦ ap (λ (u : Visit). u.cost) here.1 ∙ ap (λ (u : Vertex). (at u).cost) (sym here.0)
             | inr kept ↦ ap (λ (u : Visit). u.cost) kept.1
+          ]
+
+      same_estimate : (v : Vertex) → (at' v).estimate ≡ (at v).estimate
+      same_estimate v =
+          elim (written_or_kept at at' vertex (closed_as (closed + 1) (at vertex)) written v) [
+            | inl here ↦ ap (λ (u : Visit). u.estimate) here.1 ∙ ap (λ (u : Vertex). (at u).estimate) (sym here.0)
+            | inr kept ↦ ap (λ (u : Visit). u.estimate) kept.1
           ]
 
       same_last : (v : Vertex) → (at' v).last ≡ (at v).last
@@ -118,6 +126,7 @@ module _ (vertices : List Vertex) (estimate : Vertex → ℕ) (at : Vertex → V
         order = λ v is_closed. All-weaker (λ (e : HeapEntry). key ≤ e.key) (λ e. (at' v).cost + estimate v ≤ e.key)
             (λ e held. omega (arith, held, no_more v is_closed)) rest (of_rest (λ e. key ≤ e.key) least);
         within = λ v seen. omega (arith, same_cost v, known.within v (omega (arith, seen, same_cost v)));
+        estimates = λ v seen. same_estimate v ∙ known.estimates v (omega (arith, seen, same_cost v));
         ranks = ranks';
       }
         where

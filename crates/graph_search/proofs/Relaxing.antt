@@ -79,13 +79,13 @@ module _ (vertices : List Vertex) (arcs : Vertex → List Arc) (estimate : Verte
 
     module _ (waiting waiting' : List HeapEntry) (closed : ℕ) (known : IsKnown vertices estimate at waiting limit closed)
         (better : (at vertex).cost + arc.weight < (at arc.to).cost) (at' : Vertex → Visit)
-        (written : IsWritten at arc.to (record { cost = (at vertex).cost + arc.weight; rank = 0; last = step }) at')
+        (written : IsWritten at arc.to (record { cost = (at vertex).cost + arc.weight; estimate = estimate arc.to; rank = 0; last = step }) at')
         (waits : IsPermutation (entry ((at vertex).cost + arc.weight + estimate arc.to) arc.to ∷ waiting) waiting') where
       abbrev through : ℕ
       through = (at vertex).cost + arc.weight
 
       abbrev found : Visit
-      found = record { cost = through; rank = 0; last = step }
+      found = record { cost = through; estimate = estimate arc.to; rank = 0; last = step }
 
       cases : (v : Vertex) → ((v ≡ arc.to) × (at' v ≡ found)) ⊎ ((v ≢ arc.to) × (at' v ≡ at v))
       cases v = written_or_kept at at' arc.to found written v
@@ -156,6 +156,7 @@ module _ (vertices : List Vertex) (arcs : Vertex → List Arc) (estimate : Verte
             }) waiting known.entries));
         order = order';
         within = within';
+        estimates = estimates';
         ranks = λ v. omega (arith, same_rank v, known.ranks v);
       }
         where
@@ -199,6 +200,13 @@ module _ (vertices : List Vertex) (arcs : Vertex → List Arc) (estimate : Verte
                 | inr kept ↦
                     let same : (at' v).cost ≡ (at v).cost = ap (λ (u : Visit). u.cost) kept.1 in
                     omega (arith, same, known.within v (omega (arith, same, seen)))
+              ]
+
+          estimates' : (v : Vertex) → IsSeen (at' v) → (at' v).estimate ≡ estimate v
+          estimates' v seen =
+              elim (cases v) [
+                | inl here ↦ ap (λ (u : Visit). u.estimate) here.1 ∙ ap estimate (sym here.0)
+                | inr kept ↦ ap (λ (u : Visit). u.estimate) kept.1 ∙ known.estimates v (subst (λ (u : Visit). IsSeen u) kept.1 seen)
               ]
 
       pub closing-better : IsClosing estimate heaviest at' limit vertex
@@ -366,7 +374,7 @@ module _ (vertices : List Vertex) (arcs : Vertex → List Arc) (estimate : Verte
       abbrev Better : Vertex → Type 0
       Better v =
           (at vertex).cost + (arc_of arcs own_step).weight < (at v).cost
-          → IsWritten at v (record { cost = (at vertex).cost + (arc_of arcs own_step).weight; rank = 0; last = own_step }) at'
+          → IsWritten at v (record { cost = (at vertex).cost + (arc_of arcs own_step).weight; estimate = estimate v; rank = 0; last = own_step }) at'
           → IsPermutation (entry ((at vertex).cost + (arc_of arcs own_step).weight + estimate v) v ∷ waiting) waiting'
           → IsFollowing vertices arcs estimate heaviest vertex closed at waiting at' waiting' (place + 1) 1
 

@@ -65,7 +65,7 @@ one n =
 
 -- at the beginning
 pub between-begun : (vertices : List Vertex) (arcs : Vertex → List Arc) (estimate : Vertex → ℕ) (heaviest : ℕ) (start : Vertex) (at : Vertex → Visit)
-    (waiting : List HeapEntry) (key closed : ℕ) → Contains vertices start → IsBegun start at → key ≡ estimate start → IsPermutation (entry key start ∷ []) waiting → closed ≡ 0
+    (waiting : List HeapEntry) (key closed : ℕ) → Contains vertices start → IsBegun start key at → key ≡ estimate start → IsPermutation (entry key start ∷ []) waiting → closed ≡ 0
     → IsBetween vertices arcs estimate heaviest start at waiting closed
 between-begun vertices arcs estimate heaviest start at waiting key closed member begun is waits none = record {
   tree = record {
@@ -83,6 +83,7 @@ between-begun vertices arcs estimate heaviest start at waiting key closed member
     within = λ v seen.
         let same : (at v).cost ≡ (at start).cost = ap (λ (u : Vertex). (at u).cost) (begun.only v seen) in
         omega (arith, same, begun.begins);
+    estimates = λ v seen. ap (λ (u : Vertex). (at u).estimate) (begun.only v seen) ∙ begun.estimate ∙ is ∙ ap estimate (sym (begun.only v seen));
     ranks = λ v. omega (arith, begun.unclosed v);
   };
   relaxed = record { each = λ v is_closed. absurd (omega (arith, is_closed, begun.unclosed v)) };

@@ -34,7 +34,8 @@ pub record IsEntry (estimate : Vertex → ℕ) (at : Vertex → Visit) (key : �
   pub reached : IsSeen (at v)
   pub no_less : (at v).cost + estimate v ≤ key
 
--- every vertex seen and not closed waits with its cost and estimate, no entry has less than a closed vertex, and no cost is above a limit
+-- every vertex seen has its estimate, and waits with that and its cost where it is not closed; no entry has less than a closed vertex, and
+-- no cost is above a limit
 pub record IsKnown (vertices : List Vertex) (estimate : Vertex → ℕ) (at : Vertex → Visit) (waiting : List HeapEntry)
     (limit closed : ℕ) : Type 0 where
   pub there : (v : Vertex) → IsSeen (at v) → Contains vertices v
@@ -42,6 +43,7 @@ pub record IsKnown (vertices : List Vertex) (estimate : Vertex → ℕ) (at : Ve
   pub entries : All (λ (e : HeapEntry). IsEntry estimate at e.key e.vertex) waiting
   pub order : (v : Vertex) → IsClosed (at v) → All (λ (e : HeapEntry). (at v).cost + estimate v ≤ e.key) waiting
   pub within : (v : Vertex) → IsSeen (at v) → (at v).cost ≤ limit
+  pub estimates : (v : Vertex) → IsSeen (at v) → (at v).estimate ≡ estimate v
   pub ranks : (v : Vertex) → (at v).rank ≤ closed
 
 -- a vertex was just closed: no closed vertex has a greater cost and estimate, and its arcs lead to no cost above the limit
@@ -86,11 +88,12 @@ pub record IsFollowing (vertices : List Vertex) (arcs : Vertex → List Arc) (es
 
 -- a vertex as it is when it is closed
 abbrev pub closed_as : ℕ → Visit → Visit
-closed_as rank visit = record { cost = visit.cost; rank = rank; last = visit.last }
+closed_as rank visit = record { cost = visit.cost; estimate = visit.estimate; rank = rank; last = visit.last }
 
--- what is known at the beginning: the start costs nothing, no other vertex was seen, and none is closed
-pub record IsBegun (start : Vertex) (at : Vertex → Visit) : Type 0 where
+-- what is known at the beginning: the start costs nothing and has its estimate, no other vertex was seen, and none is closed
+pub record IsBegun (start : Vertex) (left : ℕ) (at : Vertex → Visit) : Type 0 where
   pub begins : (at start).cost ≡ 0
+  pub estimate : (at start).estimate ≡ left
   pub only : (v : Vertex) → IsSeen (at v) → v ≡ start
   pub unclosed : (v : Vertex) → (at v).rank ≡ 0
 

@@ -11,7 +11,7 @@ ghost use Rattle.graph_search.specs.Explored.{HasAllBelow, StopsAt, HasEnded, Ar
 ghost use Rattle.graph_search.specs.Exploring.{IsBeyond, IsWithin, IsExplored};
 
 use crate::graph::{Graph, Step, Vertex, Walk};
-use crate::search::{ClosedVertex, Search};
+use crate::search::{ClosedVertex, Room, Search};
 use crate::visits::Visits;
 use std::alloc::{AllocError, Global};
 
@@ -64,12 +64,40 @@ pub fn explore<G: Graph>(
     ensures few { IfOk result (λ found. CostAtMost (length (G.vertices graph.now) * G.heaviest graph.now) found.reached.items) }
     ensures short { IfOk result (λ found. length found.reached.items ≤ length (G.vertices graph.now)) }
 {
-    search_within(alloc, graph, from, stops, limits)
+    let mut room = Room::new(alloc);
+    explore_in(alloc, &mut room, graph, from, stops, limits)
+}
+
+/// The same, in room that an earlier search may have left.
+pub fn explore_in<G: Graph>(
+    alloc: Global,
+    room: &mut Room,
+    graph: &G,
+    from: Vertex,
+    stops: &[Vertex],
+    limits: Limits,
+) -> Result<Explored, AllocError>
+    requires sound { G.is_sound graph.now }
+    requires searchable { IsSearchable (G.vertices graph.now) (G.arcs graph.now) (G.estimates graph.now) (G.heaviest graph.now) }
+    requires there { Contains (G.vertices graph.now) from }
+    ensures tree { IfOk result (λ found. AreReachedFrom (G.arcs graph.now) from found.reached.items) }
+    ensures once { IfOk result (λ found. AreReachedOnce found.reached.items) }
+    ensures least { IfOk result (λ found. AreLeast (G.arcs graph.now) from found.reached.items) }
+    ensures order { IfOk result (λ found. AreInOrder (G.estimates graph.now) found.reached.items) }
+    ensures limited { IfOk result (λ found. AreLimited (G.estimates graph.now) limits found.reached.items) }
+    ensures within { IfOk result (λ found. HasAllBelow (G.arcs graph.now) (G.estimates graph.now) from found.seen found.reached.items) }
+    ensures stopped { IfOk result (λ found. StopsAt (G.estimates graph.now) stops.now found.reached.items found.seen) }
+    ensures ended { IfOk result (λ found. HasEnded stops.now limits found.reached.items found.seen) }
+    ensures few { IfOk result (λ found. CostAtMost (length (G.vertices graph.now) * G.heaviest graph.now) found.reached.items) }
+    ensures short { IfOk result (λ found. length found.reached.items ≤ length (G.vertices graph.now)) }
+{
+    search_within(alloc, room, graph, from, stops, limits)
 }
 
 /// The same, with what is said of it in one record.
 fn search_within<G: Graph>(
     alloc: Global,
+    room: &mut Room,
     graph: &G,
     from: Vertex,
     stops: &[Vertex],
@@ -81,9 +109,13 @@ fn search_within<G: Graph>(
     ensures { IfOk result (λ found. IsExplored (G.arcs graph.now) (G.estimates graph.now) from stops.now limits
         (length (G.vertices graph.now)) (length (G.vertices graph.now) * G.heaviest graph.now) found.reached.items found.seen) }
 {
-    let mut search = Search::begin(alloc, from, graph.estimate(from))?;
+    let Room {
+        visits,
+        waiting,
+        mut ends,
+    } = room.take(alloc);
+    let mut search = Search::begin(alloc, visits, waiting, from, graph.estimate(from))?;
     let mut reached = Vec::new(alloc);
-    let mut ends = Vec::new(alloc);
     while let Some(first) = search.waiting.pop(alloc)? {
         let vertex = first.vertex;
         let seen = first.key;
@@ -92,11 +124,13 @@ fn search_within<G: Graph>(
             continue;
         }
         if is_beyond(limits, search.closed, seen) {
+            room.keep(search, ends);
             return Ok(Explored { reached, seen });
         }
         reached.push(reached_as(&search.visits, search.closed, vertex))?;
         search.close(alloc, vertex)?;
         if is_stop(stops, vertex) {
+            room.keep(search, ends);
             return Ok(Explored { reached, seen });
         }
         let turn = ClosedVertex {
@@ -105,6 +139,7 @@ fn search_within<G: Graph>(
         };
         search.relax(alloc, graph, turn, &mut ends)?;
     }
+    room.keep(search, ends);
     Ok(Explored {
         reached,
         seen: u64::MAX,

@@ -12,6 +12,6 @@ mod radix_heap;
 mod search;
 mod visits;
 
-pub use exploring::{Explored, Limits, ReachedVertex, explore, reached_walk};
+pub use exploring::{Explored, Limits, ReachedVertex, explore, explore_in, reached_walk};
 pub use graph::{Arc, Graph, Step, Vertex, Walk};
-pub use search::cheapest_walk;
+pub use search::{Room, cheapest_walk, cheapest_walk_in};

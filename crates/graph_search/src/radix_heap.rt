@@ -49,9 +49,18 @@ impl RadixHeap {
         RadixHeap {
             last,
             lists: Vec::new(alloc),
-            first: 0,
+            first: usize::MAX,
             spare: Vec::new(alloc),
         }
+    }
+
+    /// No vertices again, to which keys come that are not less than the one given. Memory is kept.
+    pub(crate) fn restart(&mut self, last: u64)
+        ensures { self.new ≡ record { last = last; entries = [] } }
+    {
+        empty(&mut self.lists);
+        self.first = usize::MAX;
+        self.last = last;
     }
 
     /// Adds a vertex.
@@ -146,6 +155,16 @@ fn filled(lists: &[Vec<HeapEntry>], first: usize) -> Option<usize>
         slot += 1;
     }
     None
+}
+
+/// Takes all entries out of the lists.
+fn empty(lists: &mut Vec<Vec<HeapEntry>>)
+    ensures none { (k : ℕ) → list_at lists.new.items k ≡ [] }
+    ensures all { entries_in lists.new.items ≡ [] }
+{
+    for slot in 0..lists.len() {
+        lists[slot].clear();
+    }
 }
 
 /// Adds an entry at the end of a list.

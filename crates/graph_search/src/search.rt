@@ -5,14 +5,15 @@ ghost use Rattle.std.specs.List.Sorted.{IsPermutation};
 ghost use Rattle.graph_search.specs.declared.graph.Vertex.{Vertex};
 ghost use Rattle.graph_search.specs.declared.graph.Arc.{Arc};
 ghost use Rattle.graph_search.specs.Walks.{arc_of, IsCheapest, IsApart, IsSearchable};
-ghost use Rattle.graph_search.specs.Visited.{visit_at, IsClosed, IsWritten};
+ghost use Rattle.graph_search.specs.Visited.{visit_at, IsSeen, IsClosed, IsWritten};
 ghost use Rattle.graph_search.specs.Entries.{entry};
 ghost use Rattle.graph_search.specs.Searching.{IsTree, IsRanked, IsKnown, IsClosing, AllRelaxed, AreBeingRelaxed, IsFollowing, KeepsRanks, IsBegun, IsWalkTo, closed_as};
 
 use crate::graph::{Graph, Step, Vertex, Walk};
 use crate::radix_heap::RadixHeap;
-use crate::visits::{UNSEEN, Visits};
+use crate::visits::{UNSEEN, Visit, Visits};
 use std::alloc::{AllocError, Global};
+use std::mem;
 
 /// A walk from one vertex to another than which no other such walk costs less; none exactly where no walk joins the two. Only memory can be
 /// refused. Its steps are fewer than the vertices. Vertices are closed in the order of their least cost and estimate together, up to the
@@ -31,8 +32,32 @@ pub fn cheapest_walk<G: Graph>(
     ensures short { IfOk result (λ answer. IfSome answer (λ walk. length walk.steps.items < length (G.vertices graph.now))) }
     ensures none { IfOk result (λ answer. IfNone answer (IsApart (G.arcs graph.now) from to)) }
 {
-    let mut search = Search::begin(alloc, from, graph.estimate(from))?;
-    let mut ends = Vec::new(alloc);
+    let mut room = Room::new(alloc);
+    cheapest_walk_in(alloc, &mut room, graph, from, to)
+}
+
+/// The same, in room that an earlier search may have left.
+pub fn cheapest_walk_in<G: Graph>(
+    alloc: Global,
+    room: &mut Room,
+    graph: &G,
+    from: Vertex,
+    to: Vertex,
+) -> Result<Option<Walk>, AllocError>
+    requires sound { G.is_sound graph.now }
+    requires searchable { IsSearchable (G.vertices graph.now) (G.arcs graph.now) (G.estimates graph.now) (G.heaviest graph.now) }
+    requires there { Contains (G.vertices graph.now) from }
+    ensures found { IfOk result (λ answer. IfSome answer (λ walk. IsCheapest (G.arcs graph.now) from to walk)) }
+    ensures few { IfOk result (λ answer. IfSome answer (λ walk. walk.cost ≤ length (G.vertices graph.now) * G.heaviest graph.now)) }
+    ensures short { IfOk result (λ answer. IfSome answer (λ walk. length walk.steps.items < length (G.vertices graph.now))) }
+    ensures none { IfOk result (λ answer. IfNone answer (IsApart (G.arcs graph.now) from to)) }
+{
+    let Room {
+        visits,
+        waiting,
+        mut ends,
+    } = room.take(alloc);
+    let mut search = Search::begin(alloc, visits, waiting, from, graph.estimate(from))?;
     while let Some(first) = search.waiting.pop(alloc)? {
         let vertex = first.vertex;
         let visit = search.visits.get(vertex);
@@ -41,7 +66,9 @@ pub fn cheapest_walk<G: Graph>(
         }
         search.close(alloc, vertex)?;
         if vertex == to {
-            return Ok(Some(walk_to(alloc, &search.visits, from, to)?));
+            let walk = walk_to(alloc, &search.visits, from, to)?;
+            room.keep(search, ends);
+            return Ok(Some(walk));
         }
         let turn = ClosedVertex {
             vertex,
@@ -49,7 +76,46 @@ pub fn cheapest_walk<G: Graph>(
         };
         search.relax(alloc, graph, turn, &mut ends)?;
     }
+    room.keep(search, ends);
     Ok(None)
+}
+
+/// Memory that searches work in. One search leaves it to the next, which then asks for little. Nothing is promised of what it holds.
+#[derive(Drop)]
+pub struct Room {
+    pub(crate) visits: Visits,
+    pub(crate) waiting: RadixHeap,
+    pub(crate) ends: Vec<Vertex>,
+}
+
+impl Room {
+    /// Room without memory: searches ask for it as they go.
+    pub fn new(alloc: Global) -> Self {
+        Room {
+            visits: Visits::new(alloc),
+            waiting: RadixHeap::new(alloc, 0),
+            ends: Vec::new(alloc),
+        }
+    }
+
+    /// Takes all that is there.
+    pub(crate) fn take(&mut self, alloc: Global) -> Room {
+        mem::replace(self, Room::new(alloc))
+    }
+
+    /// Keeps what a search worked in.
+    pub(crate) fn keep(&mut self, search: Search, ends: Vec<Vertex>) {
+        let Search {
+            visits,
+            waiting,
+            closed: _,
+        } = search;
+        *self = Room {
+            visits,
+            waiting,
+            ends,
+        };
+    }
 }
 
 /// A vertex that was just closed, and what it costs.
@@ -76,15 +142,26 @@ pub(crate) struct Search {
 }
 
 impl Search {
-    /// A search from a vertex, with the estimate of what is left to go from there.
-    pub(crate) fn begin(alloc: Global, from: Vertex, estimate: u64) -> Result<Self, AllocError>
-        ensures begun { IfOk result (λ search. IsBegun from (visit_at search.visits)) }
+    /// A search from a vertex, with the estimate of what is left to go from there, by what an earlier search left.
+    pub(crate) fn begin(
+        alloc: Global,
+        mut visits: Visits,
+        mut waiting: RadixHeap,
+        from: Vertex,
+        estimate: u64,
+    ) -> Result<Self, AllocError>
+        ensures begun { IfOk result (λ search. IsBegun from estimate (visit_at search.visits)) }
         ensures waiting { IfOk result (λ search. IsPermutation (entry estimate from ∷ []) search.waiting.entries) }
         ensures closed { IfOk result (λ search. search.closed ≡ 0) }
     {
-        let mut visits = Visits::new(alloc);
-        visits.reach(alloc, from, 0, UNSEEN.last)?;
-        let mut waiting = RadixHeap::new(alloc, estimate);
+        visits.clear();
+        let start = Visit {
+            cost: 0,
+            estimate,
+            ..UNSEEN
+        };
+        visits.set(alloc, from, start)?;
+        waiting.restart(estimate);
         waiting.push(alloc, estimate, from)?;
         Ok(Search {
             visits,
@@ -186,10 +263,31 @@ impl Search {
         if known.cost <= through {
             return Ok(());
         }
-        self.visits.reach(alloc, to, through, stride.step)?;
-        let key = through + graph.estimate(to);
+        let estimate = estimate_at(graph, known, to);
+        let key = through + estimate;
+        let visit = Visit {
+            cost: through,
+            estimate,
+            rank: 0,
+            last: stride.step,
+        };
+        self.visits.set(alloc, to, visit)?;
         self.waiting.push(alloc, key, to)?;
         Ok(())
+    }
+}
+
+/// The estimate of what is left to go from a vertex. It is known where a walk to the vertex is, and found where none is.
+fn estimate_at<G: Graph>(graph: &G, known: Visit, vertex: Vertex) -> u64
+    requires sound { G.is_sound graph.now }
+    requires there { Contains (G.vertices graph.now) vertex }
+    requires known { IsSeen known → known.estimate ≡ G.estimates graph.now vertex }
+    ensures { result ≡ G.estimates graph.now vertex }
+{
+    if known.cost == u64::MAX {
+        graph.estimate(vertex)
+    } else {
+        known.estimate
     }
 }
 

@@ -6,6 +6,7 @@ pub mod Squares
 pub mod HeldLaws
 mod LineParts
 mod SearchLaws
+mod BoundLaws
 mod Earlier
 mod ScanLaws
 pub mod OneNearest

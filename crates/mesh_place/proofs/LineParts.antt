@@ -8,7 +8,7 @@ use Rattle.std.proofs.lemmas.Nat.{mul-le, div-add-mod'}
 use Rattle.std.proofs.Math.Nat.{mod-lt}
 use Rattle.nav_base.specs.declared.point.Point.{Point}
 use Rattle.nav_base.specs.Point.{dot_of, cross_of, orient_of}
-use Rattle.nav_base.proofs.Polynomials.{at, difference, product, equal}
+use Rattle.nav_base.proofs.Polynomials.{at, sum, difference, product, equal}
 use Rattle.nav_base.proofs.PointTerms.{place, coordinates, orient_term}
 use Rattle.mesh_types.specs.declared.polygon.Polygon.{Polygon}
 use Rattle.mesh_types.specs.Located.{Holds}
@@ -85,6 +85,29 @@ turns u v z = by (v.z -ℤ u.z) refl
         inl (subst (Falls (turn_on u v z)) (sym (ap unsigned_abs is)) (λ a x h. fall (turn_on u v z a) (turn_on u v z x) e (x - a) (step a x (pos e) is h)))
     by (negsuc e) is =
         inr (subst (Rises (turn_on u v z)) (sym (ap unsigned_abs is)) (λ a x h. rise (turn_on u v z a) (turn_on u v z x) e (x - a) (step a x (negsuc e) is h)))
+
+-- ---- the leftmost point over a cell
+
+apart_left : (s t a q : Point) → orient_of s t a ≡ orient_of s t q +ℤ (s.z -ℤ t.z) *ℤ (a.x -ℤ q.x) +ℤ (t.x -ℤ s.x) *ℤ (a.z -ℤ q.z)
+unfolding cross_of dot_of orient_of
+apart_left s t a q =
+    equal (coordinates (s ∷ t ∷ a ∷ q ∷ [])) (orient_term (place 0) (place 1) (place 2))
+    (sum
+    (sum (orient_term (place 0) (place 1) (place 3))
+    (product (difference (place 0).z (place 1).z) (difference (place 2).x (place 3).x)))
+    (product (difference (place 1).x (place 0).x) (difference (place 2).z (place 3).z))) refl
+
+-- a point that lies on from another, across and along, on the ways that lead to the left of a line, is no less to the left
+pub leftmost : (s t q : Point) (f g m n : ℕ) (fall rise : ℤ) → q.x ≡ pos m → q.z ≡ pos n → fall ≡ (s.z -ℤ t.z) → rise ≡ (t.x -ℤ s.x)
+    → pos 0 ≤ℤ (fall *ℤ (pos f -ℤ pos m)) → pos 0 ≤ℤ (rise *ℤ (pos g -ℤ pos n)) → orient_of s t q ≤ℤ orient_of s t (point_on f g)
+leftmost s t q f g m n fall rise across along falls rises more more' =
+    no_less (orient_of s t (point_on f g)) (orient_of s t q) ((s.z -ℤ t.z) *ℤ (pos f -ℤ q.x)) ((t.x -ℤ s.x) *ℤ (pos g -ℤ q.z))
+    (apart_left s t (point_on f g) q)
+    (subst (λ (k : ℤ). pos 0 ≤ℤ k) (λ i. falls i *ℤ (pos f -ℤ sym across i)) more)
+    (subst (λ (k : ℤ). pos 0 ≤ℤ k) (λ i. rises i *ℤ (pos g -ℤ sym along i)) more')
+  where
+    no_less : (a b k l : ℤ) → a ≡ b +ℤ k +ℤ l → pos 0 ≤ℤ k → pos 0 ≤ℤ l → b ≤ℤ a
+    no_less a b k l is first second = omega (arith, ints)
 
 -- ---- to the left, to the right
 

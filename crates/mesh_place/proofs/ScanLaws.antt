@@ -1,5 +1,5 @@
 -- The scan of a cell, of a row, of a storey, of a polygon: what is looked at is all that can be nearer than what was found.
-use Rattle.std.proofs.Common.{◌≡◌, ℕ, ◌+◌, ◌-◌, ◌*◌, ◌≤◌, ◌<◌, pos, ◌≤ℤ◌, ◌-ℤ◌, ℤ, ◌⊎◌, inl, inr, true, false, List, [], length, get_or, refl, sym, ap, subst, ◌∙◌, arith}
+use Rattle.std.proofs.Common.{◌≡◌, ℕ, ◌+◌, ◌-◌, ◌*◌, ◌≤◌, ◌<◌, pos, ◌≤ℤ◌, ◌+ℤ◌, ◌-ℤ◌, ℤ, ◌⊎◌, inl, inr, true, false, List, [], length, get_or, refl, sym, ap, subst, ◌∙◌, arith}
 use Rattle.std.specs.Prelude.{All, Some, None, min, max, slice_get, unsigned_abs}
 use Rattle.std.proofs.lemmas.Bool.{cases_lt, true≢false}
 use Rattle.std.proofs.lemmas.Int.{ints, by_lt_z}
@@ -29,13 +29,16 @@ use Rattle.mesh_place.specs.declared.lines.LineSpan.{LineSpan}
 use Rattle.mesh_place.specs.declared.storey_scan.Around.{Around}
 use Rattle.mesh_place.specs.declared.storey_scan.NearSearch.{NearSearch}
 use Rattle.mesh_place.specs.declared.storey_scan.PolygonPart.{PolygonPart}
-use Rattle.mesh_place.specs.Columns.{IsAmong}
+use Rattle.mesh_place.specs.Bounds.{AddAtLeast, height_part}
+use Rattle.mesh_place.specs.Columns.{IsAmong, reach_ends}
+use Rattle.mesh_place.specs.Floors.{height_off}
 use Rattle.mesh_place.specs.Lines.{IsInSpan, IsItOrFarther, IsNearestOf, IsPartOf, point_on}
 use Rattle.mesh_place.specs.Nearest.{IsInReach, is_open}
 use Rattle.mesh_place.specs.Searches.{IsHeightNear, IsCellOf, IsOverCell, IsLinePoint, IsHeldOnLine, IsOnLine, IsInLines, IsInRow, IsInRows, IsRowOf, IsSearch, IsWithin}
 use Rattle.mesh_place.specs.Searches.{IsPart, box_gap, cells_touched, columns_of, place_over, rows_of}
 use Rattle.mesh_place.proofs.SearchLaws.{IsLed}
-use Rattle.mesh_place.proofs.Squares.{over_column, among_columns, among_touched, box_least, farther_across, farther_along, farther_both, gap_of_point}
+use Rattle.mesh_place.proofs.Squares.{over_column, among_columns, among_touched, box_least, clamp_least, clamp_most, farther_across, farther_along, farther_both}
+use Rattle.mesh_place.proofs.Squares.{gap_of_point, size_bounds, within}
 
 -- ---- a cell
 
@@ -187,36 +190,73 @@ cell_nearest cell p x z across along q one =
 
 -- ---- the lines of a cell
 
-pub next_line : (part : PolygonPart) (cell : NearCell) (line : ℕ) (other : MeshPlace) → IsInLines part cell (line + 1) other
-    → IsInLines part cell line other ⊎ IsOnLine part cell (pos (16 * cell.z + line)) other
-next_line part cell line other one =
-    by_lt_z other.point.z (pos (16 * cell.z + line)) (λ less. inl (record { over = one.over; before = less })) (λ least. inr (here least))
+pub next_line : (part : PolygonPart) (cell : NearCell) (z : ℕ) (other : MeshPlace) → IsInLines part cell (z + 1) other
+    → IsInLines part cell z other ⊎ IsOnLine part cell (pos z) other
+next_line part cell z other one =
+    by_lt_z other.point.z (pos z) (λ less. inl (record { over = one.over; before = less })) (λ least. inr (here least))
   where
-    here : pos (16 * cell.z + line) ≤ℤ other.point.z → IsOnLine part cell (pos (16 * cell.z + line)) other
+    here : pos z ≤ℤ other.point.z → IsOnLine part cell (pos z) other
     here least =
         let over = over_column cell.x cell.z other.point one.over.over in
-        let low : 16 * cell.z + line ≤ over.along.m = omega (arith, ints, least, over.along.is) in
-        let high : over.along.m < 16 * cell.z + (line + 1) = omega (arith, ints, one.before, over.along.is) in
-        let same : over.along.m ≡ 16 * cell.z + line = omega (arith, low, high) in
+        let low : z ≤ over.along.m = omega (arith, ints, least, over.along.is) in
+        let high : over.along.m < z + 1 = omega (arith, ints, one.before, over.along.is) in
+        let same : over.along.m ≡ z = omega (arith, low, high) in
         record { over = one.over; on = over.along.is ∙ ap pos same }
 
-pub no_line : (part : PolygonPart) (cell : NearCell) (other : MeshPlace) → IsInLines part cell 0 other → ⊥
-no_line part cell other one =
-    let over = over_column cell.x cell.z other.point one.over.over in
-    let high : over.along.m < 16 * cell.z + 0 = omega (arith, ints, one.before, over.along.is) in
-    omega (arith, high, over.along.left)
+-- a place over the cell and within a reach lies on a line of the cell, between the ends of the reach
+record IsLineOf (cell : NearCell) (p : Point) (reach : ℕ) (q : Point) : Type 0 where
+  m : ℕ
+  is : q.z ≡ pos m
+  low : 16 * cell.z ≤ m
+  high : m ≤ 16 * cell.z + 16
+  begins : (reach_ends p.z reach).low ≤ m
+  ends : m ≤ (reach_ends p.z reach).high
 
-pub all_lines : (part : PolygonPart) (cell : NearCell) (other : MeshPlace) → IsOverCell part cell other → IsInLines part cell 17 other
-all_lines part cell other one =
-    let over = over_column cell.x cell.z other.point one.over in
-    let top = over.along.right in
-    record { over = one; before = omega (arith, ints, top, over.along.is) }
+line_of : (cell : NearCell) (p q : Point) (reach : ℕ) → 0 ≡ column_gap cell.x cell.z q → square_of (from_to p q) ≤ reach * reach → IsLineOf cell p reach q
+line_of cell p q reach none flat =
+    let over = over_column cell.x cell.z q none in
+    let m : ℕ = over.along.m in
+    let near = within p q reach flat in
+    let bounds = size_bounds (pos m -ℤ p.z) reach (subst (λ (n : ℤ). unsigned_abs (n -ℤ p.z) ≤ reach) over.along.is near.along) in
+    record {
+      m = m;
+      is = over.along.is;
+      low = over.along.left;
+      high = over.along.right;
+      begins = clamp_most (p.z -ℤ pos reach) m (omega (arith, ints, bounds.0));
+      ends = clamp_least (p.z +ℤ pos reach) m (omega (arith, ints, bounds.1));
+    }
+
+pub before_lines : (part : PolygonPart) (cell : NearCell) (p : Point) (reach first : ℕ) → first ≤ max (16 * cell.z) (reach_ends p.z reach).low
+    → (other : MeshPlace) → square_of (from_to p other.point) ≤ reach * reach → IsInLines part cell first other → ⊥
+before_lines part cell p reach first begins other flat one =
+    let line = line_of cell p other.point reach one.over.over flat in
+    let before : line.m < first = omega (arith, ints, one.before, line.is) in
+    let low = line.low in
+    let low' = line.begins in
+    omega (arith, begins, before, low, low')
+
+pub after_lines : (part : PolygonPart) (cell : NearCell) (p : Point) (reach end z : ℕ) → end ≡ min (16 * cell.z + 17) ((reach_ends p.z reach).high + 1)
+    → end ≤ z → (other : MeshPlace) → square_of (from_to p other.point) ≤ reach * reach → IsOverCell part cell other → IsInLines part cell z other
+after_lines part cell p reach end z ends past other flat one =
+    let line = line_of cell p other.point reach one.over flat in
+    let high = line.high in
+    let high' = line.ends in
+    let before : line.m < z = omega (arith, ends, past, high, high') in
+    record { over = one; before = omega (arith, ints, before, line.is) }
 
 -- a place over a cell whose floor is not in reach in height is not in reach
 pub not_near : (mesh : Mesh) (asked : Near) (part : PolygonPart) (cell : NearCell) → (IsHeightNear asked cell.y → ⊥) → (other : MeshPlace)
     → IsInReach mesh asked other → IsOverCell part cell other → ⊥
 not_near mesh asked part cell never other near one =
     never (subst (IsHeightNear asked) one.y (record { low = near.low; high = near.high }))
+
+-- the height of each place over a cell adds as much to its measure
+pub cell_adds : (mesh : Mesh) (search : NearSearch) (part : PolygonPart) (cell : NearCell) (high : ℕ)
+    → high ≡ height_part mesh.setting.agent.climb search.asked (height_off search.asked.y cell.y)
+    → AddAtLeast mesh search.asked high (λ other. IsOverCell part cell other × IsWithin search other.point)
+cell_adds mesh search part cell high is other stands near one =
+    subst (λ (y : ℕ). high ≤ height_part mesh.setting.agent.climb search.asked (height_off search.asked.y y)) (sym one.0.y) (omega (arith, is))
 
 -- ---- a row
 
@@ -367,18 +407,21 @@ module _ (polygons : List Polygon) (k : ℕ) (e : Extent) (are : (d : Polygon) �
       let own = (rules k no_polygon there).area in
       omega (arith, own, ap (λ (x : Extent). x.area) (are no_polygon))
 
-pub far_box : (mesh : Mesh) (asked : Near) (polygons : List Polygon) (at : PolyRef) (e : Extent)
-    → poly_at mesh at ≡ slice_get polygons at.index → ((d : Polygon) → e ≡ extent_of (get_or polygons at.index d)) → All IsPolygon polygons
-    → at.index < length polygons → (other : MeshPlace) → Stands mesh other → other.polygon ≡ at
-    → box_gap e asked.point ≤ square_of (from_to asked.point other.point)
-far_box mesh asked polygons at e listed are rules there other stands one =
+pub in_box : (mesh : Mesh) (polygons : List Polygon) (at : PolyRef) (e : Extent) → poly_at mesh at ≡ slice_get polygons at.index
+    → ((d : Polygon) → e ≡ extent_of (get_or polygons at.index d)) → All IsPolygon polygons → at.index < length polygons → (other : MeshPlace)
+    → Stands mesh other → other.polygon ≡ at → IsInBox e other.point
+in_box mesh polygons at e listed are rules there other stands one =
     let held = stands.held in
     let read : slice_get polygons at.index ≡ Some held.polygon = sym listed ∙ ap (poly_at mesh) (sym one) ∙ held.there in
     let same : get_or polygons at.index held.polygon ≡ held.polygon = get_or_from_slice_get polygons at.index held.polygon held.polygon read in
     let own : IsPolygon held.polygon = subst IsPolygon same (rules at.index held.polygon there) in
-    let box : IsInBox e other.point =
-    subst (λ (x : Extent). IsInBox x other.point) (sym (are held.polygon ∙ ap extent_of same)) (held_in_box held.polygon other.point own held.holds) in
-    box_least e asked.point other.point box
+    subst (λ (x : Extent). IsInBox x other.point) (sym (are held.polygon ∙ ap extent_of same)) (held_in_box held.polygon other.point own held.holds)
+
+pub far_box : (mesh : Mesh) (asked : Near) (polygons : List Polygon) (at : PolyRef) (e : Extent) → poly_at mesh at ≡ slice_get polygons at.index
+    → ((d : Polygon) → e ≡ extent_of (get_or polygons at.index d)) → All IsPolygon polygons → at.index < length polygons → (other : MeshPlace)
+    → Stands mesh other → other.polygon ≡ at → box_gap e asked.point ≤ square_of (from_to asked.point other.point)
+far_box mesh asked polygons at e listed are rules there other stands one =
+    box_least e asked.point other.point (in_box mesh polygons at e listed are rules there other stands one)
 
 pub not_open : (mesh : Mesh) (asked : Near) (polygons : List Polygon) (at : PolyRef) (e : Extent) → poly_at mesh at ≡ slice_get polygons at.index
     → ((d : Polygon) → e ≡ extent_of (get_or polygons at.index d)) → is_open asked.areas e.area ≡ false → (other : MeshPlace)

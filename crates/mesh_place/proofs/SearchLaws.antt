@@ -1,6 +1,6 @@
 -- What a search has found, one more place at a time.
 use Rattle.std.proofs.Common.{◌≡◌, ℕ, ◌+◌, ◌-◌, ◌*◌, ◌≤◌, ◌<◌, true, false, ◌⊎◌, inl, inr, refl, sym, ap, subst, ◌∙◌, arith}
-use Rattle.std.specs.Prelude.{◌≢◌, max, Option, Some, None, IfSome}
+use Rattle.std.specs.Prelude.{◌≢◌, min, max, Option, Some, None, IfSome}
 use Rattle.std.specs.Ordering.{is_lt, nat_cmp, ordering_then, ordering_reverse, on}
 use Rattle.std.specs.declared.cmp.Ordering.{Ordering}
 use Rattle.std.specs.declared.cmp.Ordering.TheVariants.{Less, Equal, Greater}
@@ -21,7 +21,8 @@ use Rattle.mesh_types.proofs.LinkOrderLaws.{point_total}
 use Rattle.mesh_place.specs.declared.near.Near.{Near}
 use Rattle.mesh_place.specs.declared.storey_scan.NearSearch.{NearSearch}
 use Rattle.mesh_place.specs.Nearest.{IsInReach, off_by, measure, place_cmp}
-use Rattle.mesh_place.specs.Searches.{IsFound, IsNotBefore, comes_before, IsFoundAmong, IsMeasurable, IsFoundNear, limit_of}
+use Rattle.mesh_place.specs.Searches.{IsFound, IsNotBefore, comes_before, IsFoundAmong, IsMeasurable, IsFoundNear}
+use Rattle.mesh_place.specs.Bounds.{AddAtLeast, IsBeyond, height_part, limit_of}
 
 -- ---- the order of places
 
@@ -138,44 +139,64 @@ pub found_measurable : (mesh : Mesh) (asked : Near) (best : Option MeshPlace) �
 found_measurable mesh asked None sound found = tt
 found_measurable mesh asked (Some place) sound found = measurable mesh asked place sound found.0 found.1
 
--- a place that is farther than the limit does not come before what was found
-pub beyond : (mesh : Mesh) (asked : Near) (best : Option MeshPlace) (gap : ℕ) (other : MeshPlace)
-    → limit_of mesh.setting.agent.climb asked best < gap → gap ≤ square_of (from_to asked.point other.point) → IsInReach mesh asked other
+-- a place that is beyond does not come before what was found
+pub beyond : (mesh : Mesh) (asked : Near) (best : Option MeshPlace) (gap part : ℕ) (other : MeshPlace)
+    → IsBeyond mesh.setting.agent.climb asked gap part best → gap ≤ square_of (from_to asked.point other.point)
+    → part ≤ height_part mesh.setting.agent.climb asked (off_by asked other) → IsInReach mesh asked other
     → IsNotBefore mesh.setting.agent.climb asked other best
-beyond mesh asked None gap other far least near = absurd (omega (arith, far, near.flat, least))
-beyond mesh asked (Some best) gap other far least near =
+beyond mesh asked None gap part other far least high near = absurd (omega (arith, far, near.flat, least))
+beyond mesh asked (Some best) gap part other far least high near =
     λ less.
-    let climb : ℕ = mesh.setting.agent.climb in
-    let most = no_greater (measure climb asked other) (measure climb asked best) _ less in
-    omega (arith, far, near.flat, least, most)
+    never (asked.reach * asked.reach) gap part (square_of (from_to asked.point other.point)) (height_part mesh.setting.agent.climb asked (off_by asked other))
+    (measure mesh.setting.agent.climb asked best) far near.flat least high
+    (no_greater (measure mesh.setting.agent.climb asked other) (measure mesh.setting.agent.climb asked best) _ less)
+  where
+    never : (r g p f h m : ℕ) → min (r + p) m < g + p → f ≤ r → g ≤ f → p ≤ h → f + h ≤ m → ⊥
+    never r g p f h m far flat least high most = omega arith
+
+-- what is farther than the limit is beyond
+pub over_limit : (climb : ℕ) (asked : Near) (part : ℕ) (best : Option MeshPlace) (gap : ℕ) → limit_of climb asked part best < gap
+    → IsBeyond climb asked gap part best
+over_limit climb asked part None gap far = far
+over_limit climb asked part (Some best) gap far = over (asked.reach * asked.reach) (measure climb asked best) far
+  where
+    over : (r m : ℕ) → min r (m - part) < gap → min (r + part) m < gap + part
+    over r m far = omega arith
+
+-- and so does none of some places that are farther
+pub not_within : (mesh : Mesh) (asked : Near) (best : Option MeshPlace) (part reach : ℕ) (other : MeshPlace)
+    → part ≤ height_part mesh.setting.agent.climb asked (off_by asked other) → limit_of mesh.setting.agent.climb asked part best ≤ reach * reach
+    → reach * reach < square_of (from_to asked.point other.point) → IsInReach mesh asked other → IsNotBefore mesh.setting.agent.climb asked other best
+not_within mesh asked best part reach other high enough far near =
+    beyond mesh asked best (square_of (from_to asked.point other.point)) part other
+    (over_limit mesh.setting.agent.climb asked part best (square_of (from_to asked.point other.point)) (omega (arith, enough, far))) (omega arith) high near
 
 -- what was looked at within a reach, beyond which nothing comes before what was found, is all
-pub no_more : (mesh : Mesh) (asked : Near) (old new : Option MeshPlace) (reach : ℕ) (among : MeshPlace → Type 0)
-    → limit_of mesh.setting.agent.climb asked new ≤ reach * reach
+pub no_more : (mesh : Mesh) (asked : Near) (old new : Option MeshPlace) (part reach : ℕ) (among : MeshPlace → Type 0) → AddAtLeast mesh asked part among
+    → limit_of mesh.setting.agent.climb asked part new ≤ reach * reach
     → IsFoundAmong mesh asked old new (λ place. among place × (square_of (from_to asked.point place.point) ≤ reach * reach))
     → IsFoundAmong mesh asked old new among
-no_more mesh asked old new reach among enough is = record {
+no_more mesh asked old new part reach among adds enough is = record {
   found = is.found;
   kept = is.kept;
   all = λ other stands near one.
       elim (cases_lt (reach * reach) (square_of (from_to asked.point other.point))) [
-        | inl far ↦ beyond mesh asked new (square_of (from_to asked.point other.point)) other (omega (arith, enough, far)) (omega arith) near
+        | inl far ↦ not_within mesh asked new part reach other (adds other stands near one) enough far near
         | inr close ↦ is.all other stands near (one, close)
       ];
 }
 
 -- no greater reach is left than there was
-pub no_less : (mesh : Mesh) (asked : Near) (old new : Option MeshPlace) (reach : ℕ) (among : MeshPlace → Type 0)
-    → limit_of mesh.setting.agent.climb asked old ≤ reach * reach
+pub no_less : (mesh : Mesh) (asked : Near) (old new : Option MeshPlace) (part reach : ℕ) (among : MeshPlace → Type 0) → AddAtLeast mesh asked part among
+    → limit_of mesh.setting.agent.climb asked part old ≤ reach * reach
     → IsFoundAmong mesh asked old new (λ place. among place × (square_of (from_to asked.point place.point) ≤ reach * reach))
     → IsFoundAmong mesh asked old new among
-no_less mesh asked old new reach among enough is = record {
+no_less mesh asked old new part reach among adds enough is = record {
   found = is.found;
   kept = is.kept;
   all = λ other stands near one.
       elim (cases_lt (reach * reach) (square_of (from_to asked.point other.point))) [
-        | inl far ↦
-            is.kept other (beyond mesh asked old (square_of (from_to asked.point other.point)) other (omega (arith, enough, far)) (omega arith) near)
+        | inl far ↦ is.kept other (not_within mesh asked old part reach other (adds other stands near one) enough far near)
         | inr close ↦ is.all other stands near (one, close)
       ];
 }
@@ -258,9 +279,9 @@ either_within (inl one) within = inl (one, within)
 either_within (inr one) within = inr (one, within)
 
 -- no limit is more than the square of the reach
-pub limit_most : (climb : ℕ) (asked : Near) (best : Option MeshPlace) → limit_of climb asked best ≤ asked.reach * asked.reach
-limit_most climb asked None = omega arith
-limit_most climb asked (Some best) = omega arith
+pub limit_most : (climb : ℕ) (asked : Near) (part : ℕ) (best : Option MeshPlace) → limit_of climb asked part best ≤ asked.reach * asked.reach
+limit_most climb asked part None = omega arith
+limit_most climb asked part (Some best) = omega arith
 
 -- what a search within a reach found, in the words of what is asked
 pub near_as : (mesh : Mesh) (search : NearSearch) (asked : Near) (reach : ℕ) (old new : Option MeshPlace) (among : MeshPlace → Type 0)

@@ -17,7 +17,8 @@ use Rattle.mesh_types.proofs.MeshPolygons.{placed}
 use Rattle.mesh_locate.specs.Places.{Reaches}
 use Rattle.mesh_place.specs.declared.near.Near.{Near}
 use Rattle.mesh_place.specs.declared.tiles.TilesAround.{TilesAround}
-use Rattle.mesh_place.specs.Tiles.{reach_ends, AreWithin, AreTilesAround, IsInTileRow}
+use Rattle.mesh_place.specs.Columns.{reach_ends}
+use Rattle.mesh_place.specs.Tiles.{AreWithin, AreTilesAround, IsInTileRow}
 use Rattle.mesh_place.proofs.Squares.{within, size_bounds, clamp_most, clamp_least}
 
 -- ---- the tiles along one axis that have a coordinate

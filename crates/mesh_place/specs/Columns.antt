@@ -3,6 +3,7 @@ use Rattle.std.specs.Prelude.{◌≤◌, ℕ, ◌+◌, ◌*◌, ◌-◌, ◌/◌
 use Rattle.std.specs.Int.{int_max}
 use Rattle.mesh_types.specs.Places.{outside}
 use Rattle.mesh_place.specs.declared.columns.ColumnRange.{ColumnRange}
+use Rattle.mesh_place.specs.declared.columns.ReachEnds.{ReachEnds}
 
 -- how far a number lies above another; 0 where it does not
 abbrev pub over_by : ℤ → ℤ → ℕ
@@ -23,6 +24,10 @@ columns_around n reach = record { first = (span_under (n -ℤ pos reach)).first;
 -- the columns whose closed squares reach from a line between columns, none of them before the field, to another one
 abbrev pub columns_touched : ℤ → ℤ → ColumnRange
 columns_touched low high = record { first = unsigned_abs low - 1; last = unsigned_abs high }
+
+-- the ends of what is within a reach of a coordinate; 0 for those before the field
+abbrev pub reach_ends : ℤ → ℕ → ReachEnds
+reach_ends n reach = record { low = unsigned_abs (int_max (n -ℤ pos reach) (pos 0)); high = unsigned_abs (int_max (n +ℤ pos reach) (pos 0)) }
 
 -- a column is one of some
 pub record IsAmong (range : ColumnRange) (x : ℕ) : Type 0 where

@@ -6,3 +6,4 @@ pub mod Lines
 pub mod Nearest
 pub mod Searches
 pub mod Tiles
+pub mod Bounds

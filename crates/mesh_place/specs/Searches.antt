@@ -1,5 +1,5 @@
 -- Searches: what a search for the nearest place has found.
-use Rattle.std.specs.Prelude.{◌≡◌, ◌≢◌, ℕ, ◌+◌, ◌-◌, ◌*◌, ◌<◌, ◌≤◌, ℤ, pos, ◌*ℤ◌, ◌<ℤ◌, min, Bool, true, IsTrue, Option, Some, None, slice_get}
+use Rattle.std.specs.Prelude.{◌≡◌, ◌≢◌, ℕ, ◌+◌, ◌-◌, ◌*◌, ◌<◌, ◌≤◌, ℤ, pos, ◌*ℤ◌, ◌<ℤ◌, Bool, true, IsTrue, Option, Some, None, slice_get}
 use Rattle.std.specs.Ordering.{is_lt}
 use Rattle.std.specs.declared.cmp.Ordering.TheVariants.{Less}
 use Rattle.nav_base.specs.declared.point.Point.{Point}
@@ -23,7 +23,7 @@ use Rattle.mesh_place.specs.declared.storey_scan.Around.{Around}
 use Rattle.mesh_place.specs.declared.storey_scan.NearSearch.{NearSearch}
 use Rattle.mesh_place.specs.declared.storey_scan.PolygonPart.{PolygonPart}
 use Rattle.mesh_place.specs.Columns.{IsAmong, columns_around, columns_touched}
-use Rattle.mesh_place.specs.Nearest.{CanAskNear, IsInReach, is_open, measure, place_cmp}
+use Rattle.mesh_place.specs.Nearest.{CanAskNear, IsInReach, is_open, place_cmp}
 
 -- what was found stands and is in reach
 abbrev pub IsFound : Mesh → Near → Option MeshPlace → Type 0
@@ -58,11 +58,6 @@ pub record IsHeightNear (asked : Near) (y : ℕ) : Type 0 where
 pub record IsMeasurable (asked : Near) (place : MeshPlace) : Type 0 where
   pub point : HasCoordinates place.point
   pub near : IsHeightNear asked place.y
-
--- no place farther from the point is looked for: the square of the reach, and the measure of what was found if that is less
-abbrev pub limit_of : ℕ → Near → Option MeshPlace → ℕ
-limit_of climb asked None = asked.reach * asked.reach
-limit_of climb asked (Some best) = min (asked.reach * asked.reach) (measure climb asked best)
 
 -- the square of how far a point, in sixteenths, lies outside a box of whole cells
 abbrev pub box_gap : Extent → Point → ℕ
@@ -139,9 +134,9 @@ pub record IsOnLine (part : PolygonPart) (cell : NearCell) (z : ℤ) (place : Me
   pub over : IsOverCell part cell place
   pub on : place.point.z ≡ z
 
-pub record IsInLines (part : PolygonPart) (cell : NearCell) (line : ℕ) (place : MeshPlace) : Type 0 where
+pub record IsInLines (part : PolygonPart) (cell : NearCell) (end : ℕ) (place : MeshPlace) : Type 0 where
   pub over : IsOverCell part cell place
-  pub before : place.point.z <ℤ pos (16 * cell.z + line)
+  pub before : place.point.z <ℤ pos end
 
 -- a point of a line over a cell, and one that the polygon holds
 pub record IsLinePoint (cell : NearCell) (z : ℤ) (q : Point) : Type 0 where

@@ -1,6 +1,5 @@
 -- Tiles: those that have a place within reach of what is asked, row by row.
-use Rattle.std.specs.Prelude.{◌≡◌, ℕ, ◌+◌, ◌*◌, ◌/◌, ◌%◌, ◌<◌, ◌≤◌, ℤ, pos, ◌+ℤ◌, ◌-ℤ◌, unsigned_abs}
-use Rattle.std.specs.Int.{int_max}
+use Rattle.std.specs.Prelude.{◌≡◌, ℕ, ◌+◌, ◌*◌, ◌/◌, ◌%◌, ◌<◌, ◌≤◌}
 use Rattle.nav_base.specs.Deviation.{square_of}
 use Rattle.nav_base.specs.Point.{from_to}
 use Rattle.nav_ground.specs.Tiling.{tiles_in_row, tile_rows}
@@ -8,13 +7,9 @@ use Rattle.mesh_types.specs.declared.mesh.Mesh.{Mesh}
 use Rattle.mesh_types.specs.declared.storeys.MeshPlace.{MeshPlace}
 use Rattle.mesh_types.specs.Places.{Stands}
 use Rattle.mesh_place.specs.declared.near.Near.{Near}
-use Rattle.mesh_place.specs.declared.tiles.ReachEnds.{ReachEnds}
+use Rattle.mesh_place.specs.declared.columns.ReachEnds.{ReachEnds}
 use Rattle.mesh_place.specs.declared.tiles.TileRange.{TileRange}
 use Rattle.mesh_place.specs.declared.tiles.TilesAround.{TilesAround}
-
--- the ends of what is within a reach of a coordinate; 0 for those before the field
-abbrev pub reach_ends : ℤ → ℕ → ReachEnds
-reach_ends n reach = record { low = unsigned_abs (int_max (n -ℤ pos reach) (pos 0)); high = unsigned_abs (int_max (n +ℤ pos reach) (pos 0)) }
 
 -- a coordinate within such ends, on the closed side of the tile at a place along one axis
 pub record AreWithin (reach : ReachEnds) (side place m : ℕ) : Type 0 where

@@ -1,20 +1,26 @@
 //! The places over a cell of a polygon's storey: the nearest of them is at the cell's point that is nearest to what is asked, or else,
 //! where the polygon does not hold that point, on one of the lines of whole points over the cell.
 
-ghost use Rattle.std.specs.Prelude.{◌≡◌, ◌↔◌, ◌<◌, ◌≤◌, ◌+◌, ◌*◌, IsTrue, pos};
-ghost use Rattle.nav_base.specs.Point.{HasCoordinates};
+ghost use Rattle.std.specs.Prelude.{◌≡◌, ◌↔◌, ℕ, ◌<◌, ◌≤◌, ◌+◌, ◌*◌, ◌-ℤ◌, ◌*ℤ◌, ◌≤ℤ◌, All, IsTrue, pos};
+ghost use Rattle.nav_base.specs.declared.point.Point.{Point};
+ghost use Rattle.nav_base.specs.Point.{HasCoordinates, IsCellCorner, orient_of};
+ghost use Rattle.mesh_types.specs.Located.{Holds};
 ghost use Rattle.mesh_types.specs.Places.{column_gap};
 ghost use Rattle.mesh_types.specs.Soundness.{IsSound};
 ghost use Rattle.mesh_place.specs.Nearest.{CanAskNear};
-ghost use Rattle.mesh_place.specs.Lines.{IsNearestOf, IsSpan};
+ghost use Rattle.mesh_place.specs.Bounds.{IsNearTo};
+ghost use Rattle.mesh_place.specs.Lines.{IsInSpan, IsNearestOf, IsSpan};
 ghost use Rattle.mesh_place.specs.Searches.{IsFound, IsFoundNear, IsHeightNear, IsPart, IsCellOf, IsSearch, IsWithin};
 ghost use Rattle.mesh_place.specs.Searches.{IsNotBefore, IsOverCell, IsOnLine, IsHeldOnLine, columns_of, rows_of};
 
+use crate::bounds::reach_left;
+use crate::columns::ends_along;
+use crate::floors::height_off;
 use crate::lines::{LineSpan, held_part, nearest_across, nearest_along, point_on};
-use crate::near::{Near, comes_before, is_beyond, square_distance};
+use crate::near::{Near, comes_before, height_part, is_beyond, square_distance};
 use crate::storey_scan::{NearSearch, PolygonPart};
-use mesh_types::{Mesh, MeshPlace, holds};
-use nav_base::Point;
+use mesh_types::{Mesh, MeshPlace, Polygon, edge_ends, holds};
+use nav_base::{Point, orient};
 
 /// A cell of the storey of a polygon, with its floor.
 #[derive(Clone, Copy)]
@@ -91,10 +97,13 @@ fn in_cell(
     if holds(&part.polygon, point) {
         return Some(place);
     }
+    if is_cell_right(&part.polygon, cell) {
+        return best;
+    }
     in_lines(mesh, part, cell, search, best)
 }
 
-/// The same, line by line.
+/// What was found, or a nearer place over a cell, on one of the lines that are near enough for it.
 fn in_lines(
     mesh: &Mesh,
     part: &PolygonPart,
@@ -110,9 +119,37 @@ fn in_lines(
     requires best { IsFound mesh.now search.now.asked best }
     ensures { IsFoundNear mesh.now search.now best result (IsOverCell part.now cell) }
 {
+    let asked = &search.asked;
+    let climb = mesh.setting.agent.climb;
+    let high = height_part(climb, asked, height_off(asked.y, cell.y));
+    let reach = reach_left(climb, asked, high, best);
+    in_near_lines(mesh, part, cell, reach, search, best)
+}
+
+/// The same of the places within a reach, line by line.
+fn in_near_lines(
+    mesh: &Mesh,
+    part: &PolygonPart,
+    cell: NearCell,
+    reach: u32,
+    search: &NearSearch,
+    best: Option<MeshPlace>,
+) -> Option<MeshPlace>
+    requires sound { IsSound mesh.now }
+    requires part { IsPart mesh.now search.now.asked part.now }
+    requires cell { IsCellOf mesh.now part.now cell }
+    requires near { IsHeightNear search.now.asked cell.y }
+    requires reach { reach ≤ search.now.asked.reach }
+    requires search { IsSearch search.now }
+    requires best { IsFound mesh.now search.now.asked best }
+    ensures { IsFoundNear mesh.now search.now best result (λ place. IsOverCell part.now cell place × IsNearTo search.now.asked reach place) }
+{
+    let ends = ends_along(search.asked.point, reach);
+    let end = (16 * cell.z + 17).min(ends.high + 1);
+    let first = (16 * cell.z).max(ends.low).min(end);
     let mut nearest = best;
-    for line in 0..17 {
-        nearest = in_line(mesh, part, cell, 16 * cell.z + line, search, nearest);
+    for z in first..end {
+        nearest = in_line(mesh, part, cell, z, search, nearest);
     }
     nearest
 }
@@ -190,6 +227,46 @@ fn at_held(
         return best;
     }
     Some(place)
+}
+
+/// Whether all points over a cell lie to the right of an edge of a polygon, which then holds none of them.
+fn is_cell_right(polygon: &Polygon, cell: NearCell) -> bool
+    requires corners { All IsCellCorner polygon.now.corners }
+    requires across { cell.x < 1024 }
+    requires along { cell.z < 1024 }
+    ensures { IsTrue result → (q : Point) → 0 ≡ column_gap cell.x cell.z q → Holds polygon.now q → ⊥ }
+{
+    for edge in 0..polygon.corners.as_slice().len() {
+        let (begin, end) = edge_ends(polygon, edge);
+        if orient(begin, end, leftmost_over(cell, begin, end)) < 0 {
+            return true;
+        }
+    }
+    false
+}
+
+/// The point over a cell that lies farthest to the left of a line.
+fn leftmost_over(cell: NearCell, begin: Point, end: Point) -> Point
+    requires across { cell.x < 1024 }
+    requires along { cell.z < 1024 }
+    requires begin { HasCoordinates begin }
+    requires end { HasCoordinates end }
+    ensures coordinates { HasCoordinates result }
+    ensures left { (q : Point) → 0 ≡ column_gap cell.x cell.z q → orient_of begin end q ≤ℤ orient_of begin end result }
+{
+    point_on(
+        far_end(columns_of(cell), begin.z - end.z),
+        far_end(rows_of(cell), end.x - begin.x),
+    )
+}
+
+/// The end of a span that lies farther on a way along its line: the last where the way leads upward.
+fn far_end(span: LineSpan, way: i32) -> u32
+    requires { IsSpan span }
+    ensures inside { IsInSpan span result }
+    ensures far { (m : ℕ) → IsInSpan span m → pos 0 ≤ℤ (way *ℤ (pos result -ℤ pos m)) }
+{
+    if way > 0 { span.last } else { span.first }
 }
 
 /// Whether a floor is in reach in height.

@@ -3,7 +3,7 @@
 ghost use Rattle.std.specs.Prelude.{◌≡◌, ◌<◌, ◌≤◌, ◌/◌, ◌-◌};
 ghost use Rattle.nav_base.specs.Point.{HasCoordinates, IsCoordinate};
 ghost use Rattle.mesh_types.specs.Places.{column_gap};
-ghost use Rattle.mesh_place.specs.Columns.{column_out, columns_around, columns_touched, span_under};
+ghost use Rattle.mesh_place.specs.Columns.{column_out, columns_around, columns_touched, reach_ends, span_under};
 
 use nav_base::Point;
 
@@ -12,6 +12,13 @@ use nav_base::Point;
 pub struct ColumnRange {
     pub first: u32,
     pub last: u32,
+}
+
+/// The coordinates within a reach, in sixteenths; 0 for those before the field.
+#[derive(Clone, Copy)]
+pub struct ReachEnds {
+    pub low: u32,
+    pub high: u32,
 }
 
 /// The square of how far a point lies outside the closed square of a column.
@@ -90,5 +97,31 @@ pub(crate) fn columns_touched(low: i32, high: i32) -> ColumnRange
     ColumnRange {
         first: low.unsigned_abs().saturating_sub(1),
         last: high.unsigned_abs(),
+    }
+}
+
+/// The coordinates across within a reach of a point.
+pub(crate) fn ends_across(p: Point, reach: u32) -> ReachEnds
+    requires point { HasCoordinates p }
+    requires reach { reach < 262144 }
+    ensures value { result ≡ reach_ends p.x reach }
+    ensures bound { result.high ≤ 1000000 }
+{
+    ReachEnds {
+        low: (p.x - reach as i32).max(0).unsigned_abs(),
+        high: (p.x + reach as i32).max(0).unsigned_abs(),
+    }
+}
+
+/// The coordinates along within a reach of a point.
+pub(crate) fn ends_along(p: Point, reach: u32) -> ReachEnds
+    requires point { HasCoordinates p }
+    requires reach { reach < 262144 }
+    ensures value { result ≡ reach_ends p.z reach }
+    ensures bound { result.high ≤ 1000000 }
+{
+    ReachEnds {
+        low: (p.z - reach as i32).max(0).unsigned_abs(),
+        high: (p.z + reach as i32).max(0).unsigned_abs(),
     }
 }

@@ -6,6 +6,7 @@ ghost use Rattle.nav_ground.specs.Limits.{IsSetting};
 ghost use Rattle.mesh_types.specs.FitTiles.{IsPolygon};
 ghost use Rattle.mesh_place.specs.Nearest.{CanAskNear};
 
+use crate::bounds::{ReachSquare, meets, square_around};
 use crate::boxes::box_gap;
 use crate::near::{Near, is_open, square_distance};
 use mesh_types::{Polygon, Polygons, edge_ends};
@@ -18,27 +19,41 @@ pub(crate) fn likely_polygon(polygons: &Polygons, climb: u32, asked: &Near) -> u
     requires polygons { All IsPolygon polygons.now }
     requires asked { CanAskNear asked.now }
 {
+    let square = square_around(asked.point, asked.reach);
     let mut likely = u32::MAX;
     let mut least = u64::MAX;
     let mut place = 0_u32;
     for i in 0..polygons.len() {
-        let measure = likely_measure(polygons, i, climb, asked, least);
+        let measure = likely_measure(polygons, i, climb, asked, &square, least);
         if measure < least {
             least = measure;
             likely = place;
+        }
+        if least == 0 {
+            return likely;
         }
         place = place.wrapping_add(1);
     }
     likely
 }
 
-/// The measure that the nearest place of a polygon is likely to have, if that is less than another; that other else.
-fn likely_measure(polygons: &Polygons, place: usize, climb: u32, asked: &Near, least: u64) -> u64
+/// The measure that the nearest place of a polygon in a square is likely to have, if that is less than another; that other else.
+fn likely_measure(
+    polygons: &Polygons,
+    place: usize,
+    climb: u32,
+    asked: &Near,
+    square: &ReachSquare,
+    least: u64,
+) -> u64
     requires polygons { All IsPolygon polygons.now }
     requires there { place < length polygons.now }
     requires asked { CanAskNear asked.now }
 {
     let extent = polygons.extent(place);
+    if !meets(square, extent) {
+        return least;
+    }
     let gap = box_gap(extent, asked.point);
     if gap >= least || !is_open(asked.areas, extent.area) {
         return least;
@@ -48,12 +63,12 @@ fn likely_measure(polygons: &Polygons, place: usize, climb: u32, asked: &Near, l
         return least;
     };
     let over = u64::from(asked.weight).wrapping_mul(u64::from(off.saturating_sub(climb)));
-    let square = over.wrapping_mul(over);
-    if gap.wrapping_add(square) >= least {
+    let high = over.wrapping_mul(over);
+    if gap.wrapping_add(high) >= least {
         return least;
     }
     let flat = square_outside(&polygon, asked.point).unwrap_or(0);
-    least.min(flat.wrapping_add(square))
+    least.min(flat.wrapping_add(high))
 }
 
 /// How far the range of a polygon's floors is from the height asked for; none where it is out of reach.

@@ -8,6 +8,7 @@
 //! Points are in sixteenths of a cell, corners of polygons and columns in whole cells, heights in the unit of the floors.
 #![tactic(auto)]
 
+mod bounds;
 mod boxes;
 mod cells;
 mod columns;

@@ -8,6 +8,7 @@ ghost use Rattle.nav_base.specs.Point.{HasCoordinates, from_to};
 ghost use Rattle.mesh_types.specs.LinkOrder.{poly_cmp, point_cmp};
 ghost use Rattle.mesh_place.specs.Nearest.{CanAskNear, is_open, measure, off_by, place_cmp};
 ghost use Rattle.mesh_place.specs.Searches.{IsMeasurable, comes_before};
+ghost use Rattle.mesh_place.specs.Bounds.{height_part};
 
 use crate::floors::height_off;
 use mesh_types::{MeshPlace, PolyRef};
@@ -118,8 +119,18 @@ pub(crate) fn measure(climb: u32, asked: &Near, place: MeshPlace) -> u64
     requires place { IsMeasurable asked.now place }
     ensures { result ≡ measure climb asked.now place }
 {
-    let over = over(climb, asked, off_by(asked, place));
-    square_distance(asked.point, place.point) + over * over
+    square_distance(asked.point, place.point) + height_part(climb, asked, off_by(asked, place))
+}
+
+/// What the height of a floor that is so far off adds to the measure.
+pub(crate) fn height_part(climb: u32, asked: &Near, off: u32) -> u64
+    requires asked { CanAskNear asked.now }
+    requires off { off < 16384 }
+    ensures value { result ≡ height_part climb asked.now off }
+    ensures bound { result ≤ 1152921504606846976 }
+{
+    let over = over(climb, asked, off);
+    over * over
 }
 
 /// How far the floor of a place is from the height asked for.

@@ -1,21 +1,28 @@
 //! The search for the nearest place in a tile, over its polygons.
 
-ghost use Rattle.std.specs.Prelude.{◌≡◌, ◌↔◌, ◌<◌, ◌≤◌, ◌+◌, ◌*◌, All, IsTrue, IfSome, Some, length, slice_get};
-ghost use Rattle.nav_base.specs.Point.{IsCellCorner};
-ghost use Rattle.mesh_types.specs.FitTiles.{IsPolygon};
-ghost use Rattle.mesh_types.specs.Places.{storey_at};
+ghost use Rattle.std.specs.Prelude.{◌≡◌, ◌<◌, ◌≤◌, All, Some, length, slice_get};
+ghost use Rattle.nav_base.specs.Point.{HasCoordinates, IsCellCorner};
+ghost use Rattle.mesh_types.specs.declared.storeys.Storey.{Storey};
+ghost use Rattle.mesh_types.specs.Places.{storey_at, storey_in};
+ghost use Rattle.mesh_types.specs.Reaches.{IsStoreyBetween};
 ghost use Rattle.mesh_types.specs.Soundness.{IsSound};
 ghost use Rattle.mesh_types.specs.Storeys.{IsStorey};
-ghost use Rattle.mesh_types.specs.WholeMesh.{poly_at};
 ghost use Rattle.mesh_place.specs.Nearest.{CanAskNear};
-ghost use Rattle.mesh_place.specs.Searches.{IsFound, IsFoundAmong, IsMeasurable, IsPart, box_gap, limit_of};
+ghost use Rattle.mesh_place.specs.Searches.{IsFound, IsFoundAmong, IsPart};
+ghost use Rattle.mesh_place.specs.Bounds.{AddAtLeast, IsNearTo, square_around};
 
+use crate::bounds::{
+    ReachSquare, is_gap_beyond, is_polygon_beyond, least_part, limit, meets, reach_left,
+    square_around,
+};
 use crate::boxes::box_gap;
 use crate::guesses::{likely_polygon, likely_reach};
-use crate::near::{Near, is_open, measure};
+use crate::near::{Near, is_open};
 use crate::storey_scan::{PolygonPart, cells_touched, in_storey, search_within};
-use mesh_types::{Extent, Mesh, MeshPlace, PolyRef, Polygons, Storey, storey_of};
-use nav_base::ceil_sqrt;
+use mesh_types::{
+    FloorReach, Mesh, MeshPlace, PolyRef, Polygon, Storey, Storeys, TileMesh, storey_of,
+};
+use nav_base::Point;
 use nav_ground::TileNo;
 
 /// What was found, or a nearer place of a tile.
@@ -31,14 +38,19 @@ pub(crate) fn in_tile(
     requires best { IsFound mesh.now asked.now best }
     ensures { IsFoundAmong mesh.now asked.now best result (λ place. place.polygon.tile ≡ tile) }
 {
-    let polygons = &mesh.tiles.at(tile as usize).get().polys;
+    let here = mesh.tiles.at(tile as usize).get();
+    let climb = mesh.setting.agent.climb;
+    let Some(part) = least_part(climb, asked, here.storeys.whole().floors) else {
+        return best;
+    };
+    let square = square_around(asked.point, reach_left(climb, asked, part, best));
     let mut nearest = best;
-    for i in 0..polygons.len() {
+    for i in 0..here.polys.len() {
         let at = PolyRef {
             tile,
             index: i as u32,
         };
-        nearest = in_polygon(mesh, at, polygons, asked, nearest);
+        nearest = in_square(mesh, at, here, &square, asked, nearest);
     }
     nearest
 }
@@ -56,36 +68,63 @@ pub(crate) fn likely_first(
     requires best { IsFound mesh.now asked.now best }
     ensures { IsFoundAmong mesh.now asked.now best result (λ place. ⊥) }
 {
-    let polygons = &mesh.tiles.at(tile as usize).get().polys;
-    let index = likely_polygon(polygons, mesh.setting.agent.climb, asked);
-    if index as usize >= polygons.len() {
+    let here = mesh.tiles.at(tile as usize).get();
+    let index = likely_polygon(&here.polys, mesh.setting.agent.climb, asked);
+    if index as usize >= here.polys.len() {
         return best;
     }
-    in_polygon(mesh, PolyRef { tile, index }, polygons, asked, best)
+    in_polygon(mesh, PolyRef { tile, index }, here, asked, best)
 }
 
-/// What was found, or a nearer place of a polygon. Of most polygons the box and the area alone are looked at.
-fn in_polygon(
+/// What was found, or a nearer place of a polygon that lies in a square. Of most polygons the box alone is looked at.
+fn in_square(
     mesh: &Mesh,
     at: PolyRef,
-    polygons: &Polygons,
+    here: &TileMesh,
+    square: &ReachSquare,
     asked: &Near,
     best: Option<MeshPlace>,
 ) -> Option<MeshPlace>
     requires sound { IsSound mesh.now }
-    requires listed { poly_at mesh.now at ≡ slice_get polygons.now at.index }
-    requires there { at.index < length polygons.now }
-    requires polygons { All IsPolygon polygons.now }
+    requires tile { slice_get mesh.now.tiles at.tile ≡ Some here.now }
+    requires there { at.index < length here.now.polys }
+    requires square { square.now ≡ square_around asked.now.point square.now.reach }
+    requires asked { CanAskNear asked.now }
+    requires best { IsFound mesh.now asked.now best }
+    ensures { IsFoundAmong mesh.now asked.now best result (λ place. (place.polygon ≡ at) × IsNearTo asked.now square.now.reach place) }
+{
+    let extent = here.polys.extent(at.index as usize);
+    if !meets(square, extent) {
+        return best;
+    }
+    in_polygon(mesh, at, here, asked, best)
+}
+
+/// What was found, or a nearer place of a polygon. It is passed over by its box and the floors of its storey where these are too far.
+fn in_polygon(
+    mesh: &Mesh,
+    at: PolyRef,
+    here: &TileMesh,
+    asked: &Near,
+    best: Option<MeshPlace>,
+) -> Option<MeshPlace>
+    requires sound { IsSound mesh.now }
+    requires tile { slice_get mesh.now.tiles at.tile ≡ Some here.now }
+    requires there { at.index < length here.now.polys }
     requires asked { CanAskNear asked.now }
     requires best { IsFound mesh.now asked.now best }
     ensures { IsFoundAmong mesh.now asked.now best result (λ place. place.polygon ≡ at) }
 {
     let place = at.index as usize;
-    let extent = polygons.extent(place);
-    if is_box_beyond(mesh.setting.agent.climb, extent, asked, best) {
+    let extent = here.polys.extent(place);
+    if !is_open(asked.areas, extent.area) {
         return best;
     }
-    if !is_open(asked.areas, extent.area) {
+    let climb = mesh.setting.agent.climb;
+    let Some(least) = least_part(climb, asked, floors_of(&here.storeys, place)) else {
+        return best;
+    };
+    if is_gap_beyond(climb, asked, box_gap(extent, asked.point), least, best) {
         return best;
     }
     let Some(storey) = storey_of(mesh, at) else {
@@ -93,30 +132,38 @@ fn in_polygon(
     };
     let part = PolygonPart {
         at,
-        polygon: polygons.at(place),
+        polygon: here.polys.at(place),
         touched: cells_touched(extent),
     };
-    in_part(mesh, &part, storey, asked, best)
+    in_part(mesh, &part, storey, asked, least, best)
 }
 
-/// Whether a box of whole cells is so far that none of its places comes before what was found.
-fn is_box_beyond(climb: u32, extent: Extent, asked: &Near, best: Option<MeshPlace>) -> bool
-    requires low { IsCellCorner extent.low }
-    requires high { IsCellCorner extent.high }
-    requires asked { CanAskNear asked.now }
-    requires best { IfSome best (IsMeasurable asked.now) }
-    ensures { IsTrue result ↔ (limit_of climb asked.now best < box_gap extent asked.now.point) }
+/// Between which floors the cells of a polygon's storey lie.
+fn floors_of(storeys: &Storeys, polygon: usize) -> FloorReach
+    ensures { (storey : Storey) → storey_in storeys.now polygon ≡ Some storey → IsStoreyBetween result storey }
 {
-    box_gap(extent, asked.point) > limit(climb, asked, best)
+    let none = FloorReach {
+        least: 0,
+        greatest: 0,
+    };
+    let Some(home) = storeys.homes().get(polygon) else {
+        return none;
+    };
+    let home = *home as usize;
+    if home >= storeys.list().len() {
+        return none;
+    }
+    storeys.reach(home).floors
 }
 
-/// What was found, or a nearer place of a polygon of an open area: first within the distance at which there is likely to be one, and then
-/// within what is left of the reach.
+/// What was found, or a nearer place of a polygon of an open area whose heights add at least so much to their measures: first within the
+/// distance at which there is likely to be one, and then within what is left of the reach.
 fn in_part(
     mesh: &Mesh,
     part: &PolygonPart,
     storey: &Storey,
     asked: &Near,
+    least: u64,
     best: Option<MeshPlace>,
 ) -> Option<MeshPlace>
     requires sound { IsSound mesh.now }
@@ -124,38 +171,35 @@ fn in_part(
     requires home { storey_at mesh.now part.now.at ≡ Some storey.now }
     requires storey { IsStorey storey.now }
     requires asked { CanAskNear asked.now }
+    requires least { AddAtLeast mesh.now asked.now least (λ place. place.polygon ≡ part.now.at) }
     requires best { IsFound mesh.now asked.now best }
     ensures { IsFoundAmong mesh.now asked.now best result (λ place. place.polygon ≡ part.now.at) }
 {
     let climb = mesh.setting.agent.climb;
-    let near = likely_reach(&part.polygon, asked.point).min(reach_left(climb, asked, best));
+    if is_polygon_beyond(&part.polygon, asked.point, limit(climb, asked, least, best)) {
+        return best;
+    }
+    let near = near_reach(
+        &part.polygon,
+        asked.point,
+        reach_left(climb, asked, least, best),
+    );
     let nearest = in_storey(mesh, part, storey, &search_within(asked, near), best);
-    let rest = reach_left(climb, asked, nearest);
+    let rest = reach_left(climb, asked, least, nearest);
     if rest <= near {
         return nearest;
     }
     in_storey(mesh, part, storey, &search_within(asked, rest), nearest)
 }
 
-/// The reach within which places are left that may come before what was found.
-pub(crate) fn reach_left(climb: u32, asked: &Near, best: Option<MeshPlace>) -> u32
-    requires asked { CanAskNear asked.now }
-    requires best { IfSome best (IsMeasurable asked.now) }
-    ensures most { result ≤ asked.now.reach }
-    ensures enough { limit_of climb asked.now best ≤ result * result }
+/// The reach within which a polygon is looked at first: all of one that is no more than a cell, and else as far as the polygon is likely to be.
+fn near_reach(polygon: &Polygon, p: Point, reach: u32) -> u32
+    requires corners { All IsCellCorner polygon.now.corners }
+    requires point { HasCoordinates p }
+    ensures { result ≤ reach }
 {
-    ceil_sqrt(limit(climb, asked, best))
-}
-
-/// The square of the distance beyond which no place is looked for.
-fn limit(climb: u32, asked: &Near, best: Option<MeshPlace>) -> u64
-    requires asked { CanAskNear asked.now }
-    requires best { IfSome best (IsMeasurable asked.now) }
-    ensures { result ≡ limit_of climb asked.now best }
-{
-    let reach = u64::from(asked.reach) * u64::from(asked.reach);
-    match best {
-        None => reach,
-        Some(best) => reach.min(measure(climb, asked, best)),
+    if reach <= 16 {
+        return reach;
     }
+    reach.min(likely_reach(polygon, p))
 }

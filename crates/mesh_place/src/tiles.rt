@@ -1,26 +1,19 @@
 //! The tiles within reach of a point, row by row.
 
 ghost use Rattle.std.specs.Prelude.{◌≡◌, ℕ, ◌<◌, ◌≤◌, ◌*◌, ◌/◌};
-ghost use Rattle.nav_base.specs.Point.{HasCoordinates};
 ghost use Rattle.nav_ground.specs.Limits.{IsSetting};
 ghost use Rattle.nav_ground.specs.Tiling.{tiles_in_row, tile_rows};
 ghost use Rattle.mesh_types.specs.Soundness.{IsSound};
 ghost use Rattle.mesh_place.specs.Nearest.{CanAskNear};
 ghost use Rattle.mesh_place.specs.Searches.{IsFound, IsFoundAmong};
-ghost use Rattle.mesh_place.specs.Tiles.{AreTilesAround, AreWithin, IsInTileRows, IsNearBy, reach_ends};
+ghost use Rattle.mesh_place.specs.Tiles.{AreTilesAround, AreWithin, IsInTileRows, IsNearBy};
 
+use crate::bounds::reach_left;
+use crate::columns::{ReachEnds, ends_across, ends_along};
 use crate::guesses::likely_tile;
 use crate::near::Near;
-use crate::scan::{in_tile, likely_first, reach_left};
+use crate::scan::{in_tile, likely_first};
 use mesh_types::{Mesh, MeshPlace};
-use nav_base::Point;
-
-/// The coordinates within a reach, in sixteenths; 0 for those before the field.
-#[derive(Clone, Copy)]
-pub struct ReachEnds {
-    pub low: u32,
-    pub high: u32,
-}
 
 /// Places of tiles along one axis: from the first up to before the end.
 #[derive(Clone, Copy)]
@@ -47,7 +40,7 @@ pub(crate) fn in_tiles(mesh: &Mesh, asked: &Near, best: Option<MeshPlace>) -> Op
     ensures { IsFoundAmong mesh.now asked.now best result (IsInTileRows mesh.now (tile_rows mesh.now.setting)) }
 {
     let likely = likely_place(mesh, asked, best);
-    let reach = reach_left(mesh.setting.agent.climb, asked, likely);
+    let reach = reach_left(mesh.setting.agent.climb, asked, 0, likely);
     in_tile_rows(mesh, &tiles_around(mesh, asked, reach), asked, likely)
 }
 
@@ -145,30 +138,4 @@ fn tiles_within(reach: ReachEnds, side: u32, count: u32) -> TileRange
     let end = count.min(reach.high / side + 1);
     let first = end.min(reach.low.saturating_sub(1) / side);
     TileRange { first, end }
-}
-
-/// The coordinates across within a reach of a point.
-fn ends_across(p: Point, reach: u32) -> ReachEnds
-    requires point { HasCoordinates p }
-    requires reach { reach < 262144 }
-    ensures value { result ≡ reach_ends p.x reach }
-    ensures bound { result.high ≤ 1000000 }
-{
-    ReachEnds {
-        low: (p.x - reach as i32).max(0).unsigned_abs(),
-        high: (p.x + reach as i32).max(0).unsigned_abs(),
-    }
-}
-
-/// The coordinates along within a reach of a point.
-fn ends_along(p: Point, reach: u32) -> ReachEnds
-    requires point { HasCoordinates p }
-    requires reach { reach < 262144 }
-    ensures value { result ≡ reach_ends p.z reach }
-    ensures bound { result.high ≤ 1000000 }
-{
-    ReachEnds {
-        low: (p.z - reach as i32).max(0).unsigned_abs(),
-        high: (p.z + reach as i32).max(0).unsigned_abs(),
-    }
 }

@@ -52,3 +52,4 @@ pub mod DoorRims
 pub mod ContourFit
 pub mod RegionLaws
 mod ExtentLaws
+mod ReachLaws

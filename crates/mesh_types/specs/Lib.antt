@@ -22,6 +22,7 @@ pub mod Regions
 pub mod Rings
 pub mod Contours
 pub mod Storeys
+pub mod Reaches
 pub mod Simplified
 pub mod Choices
 pub mod Rounds

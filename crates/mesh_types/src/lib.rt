@@ -15,6 +15,7 @@ mod links;
 mod mesh;
 mod polygon;
 mod polygons;
+mod reaches;
 mod region;
 mod storeys;
 
@@ -27,6 +28,7 @@ pub use links::{Link, Links, PolyRef, Portal, order_links};
 pub use mesh::{LevelPair, Mesh, RimEdge, TileMesh, copy_mesh, copy_tile, poly};
 pub use polygon::{Corners, Polygon, edge_ends, holds, in_sixteenths};
 pub use polygons::Polygons;
+pub use reaches::{FloorReach, StoreyReach, TileReach};
 pub use region::{
     Code, LabelRun, Outline, Piece, PortalEdge, Region, RegionPart, Regions, Simplified, Strip,
     Triangle, UnitEdge, runs,

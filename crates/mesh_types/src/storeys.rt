@@ -1,12 +1,14 @@
 //! The storeys of a tile: the cells of its regions or strips with their floors. Places on a mesh.
 
-ghost use Rattle.std.specs.Prelude.{◌≡◌, IfSome};
+ghost use Rattle.std.specs.Prelude.{◌≡◌, ◌<◌, IfOk, IfSome, Some, length, slice_get};
 ghost use Rattle.std.specs.Option.{option_copied};
 ghost use Rattle.mesh_types.specs.Storeys.{AreStoreys, IsStorey, no_storeys};
 ghost use Rattle.mesh_types.specs.Places.{storey_in, storey_at};
+ghost use Rattle.mesh_types.specs.Reaches.{IsReach, IsTileReach};
 
 use crate::links::PolyRef;
 use crate::mesh::Mesh;
+use crate::reaches::{NO_FLOORS, StoreyReach, TileReach, reaches, tile_reach};
 use nav_base::Point;
 use nav_lists::{Duplicate, Items};
 use std::alloc::{AllocError, Global};
@@ -37,25 +39,35 @@ pub struct Storey {
 pub struct Storeys {
     homes: Items<u32>,
     list: Items<Storey>,
+    reaches: Items<StoreyReach>,
+    whole: TileReach,
 }
 
 impl Model for Storeys {
     ghost use Rattle.mesh_types.specs.Storeys.{TileStoreys, AreStoreys};
+    ghost use Rattle.mesh_types.specs.Reaches.{AreReaches, IsTileReach};
 
     ghost Value = { TileStoreys };
 
     ghost view = { λ a. record { homes = a.homes; list = a.list } };
 
-    ghost invariant = { λ a. AreStoreys a.list };
+    ghost invariant = { λ a. AreStoreys a.list × AreReaches a.list a.reaches × IsTileReach a.list a.whole };
 }
 
 impl Storeys {
     /// Storeys, and for each polygon the place of its storey among them, from 0.
-    pub fn new(homes: Items<u32>, list: Items<Storey>) -> Storeys
+    pub fn new(alloc: Global, homes: Items<u32>, list: Items<Storey>) -> Result<Storeys, AllocError>
         requires { AreStoreys list }
-        ensures { result ≡ record { homes = homes; list = list } }
+        ensures { IfOk result (λ storeys. storeys ≡ record { homes = homes; list = list }) }
     {
-        Storeys { homes, list }
+        let reaches = reaches(alloc, list.as_slice())?;
+        let whole = tile_reach(list.as_slice(), reaches.as_slice());
+        Ok(Storeys {
+            homes,
+            list,
+            reaches,
+            whole,
+        })
     }
 
     /// The storeys of a tile without polygons; they take no memory.
@@ -65,6 +77,12 @@ impl Storeys {
         Storeys {
             homes: Items::new(alloc),
             list: Items::new(alloc),
+            reaches: Items::new(alloc),
+            whole: TileReach {
+                cells: 0,
+                floors: NO_FLOORS,
+                area: 0,
+            },
         }
     }
 
@@ -81,6 +99,21 @@ impl Storeys {
         ensures rules { AreStoreys result.now }
     {
         self.list.as_slice()
+    }
+
+    /// How many cells the storey with a place in the list has, and between which floors they lie.
+    pub fn reach(&self, storey: usize) -> StoreyReach
+        requires { storey < length self.now.list }
+        ensures { (it : Storey) → slice_get self.now.list storey ≡ Some it → IsReach it result }
+    {
+        self.reaches.as_slice()[storey]
+    }
+
+    /// How many cells all storeys have, and between which floors they lie.
+    pub fn whole(&self) -> TileReach
+        ensures { IsTileReach self.now.list result }
+    {
+        self.whole
     }
 
     /// The storey of the polygon with a place in the tile, from 0; none where there is none.
@@ -135,9 +168,10 @@ impl Duplicate for Storey {
 
 impl Duplicate for Storeys {
     fn duplicate(&self, alloc: Global) -> Result<Self, AllocError> {
-        Ok(Storeys {
-            homes: self.homes.duplicate(alloc)?,
-            list: self.list.duplicate(alloc)?,
-        })
+        Storeys::new(
+            alloc,
+            self.homes.duplicate(alloc)?,
+            self.list.duplicate(alloc)?,
+        )
     }
 }

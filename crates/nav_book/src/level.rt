@@ -80,7 +80,7 @@ impl Level {
         Ok(Level {
             queue,
             fresh,
-            mesh: PublishedMesh::new(shared),
+            mesh: PublishedMesh::new(alloc, shared),
             builds,
         })
     }
@@ -267,6 +267,23 @@ impl Level {
         Ok((self.queue.published(), answer))
     }
 
+    /// The same; the memory that a search for a path works in is kept for the next.
+    pub fn ask_in_room(
+        &mut self,
+        alloc: Global,
+        question: &Question,
+    ) -> Result<(u32, Answer), AllocError>
+        requires { IsAnswerable question.now }
+        ensures published { IfOk result (λ told. told.0 ≡ self.old.published) }
+        ensures right { IfOk result (λ told. IsRight (published_mesh self.old) question.now told.1) }
+        ensures low_cost { IfOk result (λ told. HasLowCost told.1) }
+        ensures unfolded { IfOk result (λ told. HasUnfoldedWay told.1) }
+        ensures same { self.new ≡ self.old }
+    {
+        let answer = self.mesh.ask_in_room(alloc, question)?;
+        Ok((self.queue.published(), answer))
+    }
+
     /// The same, for one who asks much: the 24th path question that is so asked without landmarks makes some first, where memory for that is
     /// left, and each publish keeps them where it can. Only memory for the answer is refused.
     pub fn ask_and_prepare(
@@ -281,8 +298,8 @@ impl Level {
         ensures unfolded { IfOk result (λ told. HasUnfoldedWay told.1) }
         ensures same { self.new ≡ self.old }
     {
-        self.mesh.count(alloc, question);
-        self.ask(alloc, question)
+        let answer = self.mesh.ask_and_prepare(alloc, question)?;
+        Ok((self.queue.published(), answer))
     }
 
     /// Makes landmarks of the published mesh where there are none. They cost about as much as thirty path questions, and each later one closes a
@@ -346,7 +363,7 @@ impl Level {
     }
 
     /// The same with the landmarks of the mesh, where there are some.
-    pub(crate) fn prepared_mesh(&self) -> Result<PreparedMesh, AllocError>
+    pub fn prepared_mesh(&self) -> Result<PreparedMesh, AllocError>
         ensures value { IfOk result (λ mesh. mesh ≡ published_mesh self.now) }
         ensures sound { IfOk result IsSound }
     {

@@ -8,6 +8,7 @@ ghost use Rattle.tile_links.specs.NewTiles.{New};
 ghost use Rattle.corridor_search.specs.Changes.{DifferIn};
 ghost use Rattle.nav_query.specs.Questions.{HasLowCost, IsAnswerable};
 
+use graph_search::Room;
 use mesh_types::{Answer, Mesh, TileMesh};
 use nav_base::Question;
 use nav_ground::TileNo;
@@ -26,6 +27,8 @@ pub(crate) struct PublishedMesh {
     mesh: PreparedMesh,
     /// How many path questions found no landmarks, of this mesh and of those before it.
     missed: u32,
+    /// Memory that the searches for paths work in.
+    room: Room,
 }
 
 impl Model for PublishedMesh {
@@ -38,12 +41,13 @@ impl Model for PublishedMesh {
 
 impl PublishedMesh {
     /// A mesh of which no landmarks were made yet.
-    pub(crate) fn new(mesh: Shared<Mesh>) -> PublishedMesh
+    pub(crate) fn new(alloc: Global, mesh: Shared<Mesh>) -> PublishedMesh
         ensures { result ≡ mesh }
     {
         PublishedMesh {
             mesh: PreparedMesh::new(mesh),
             missed: 0,
+            room: Room::new(alloc),
         }
     }
 
@@ -101,7 +105,7 @@ impl PublishedMesh {
 
     /// Counts a path question that is about to be asked, and makes landmarks once there were many. Where memory for them is refused, it is
     /// answered without.
-    pub(crate) fn count(&mut self, alloc: Global, question: &Question)
+    fn count(&mut self, alloc: Global, question: &Question)
         requires sound { IsSound self.old }
         requires setting { IsSetting self.old.setting }
         ensures { self.new ≡ self.old }
@@ -126,5 +130,38 @@ impl PublishedMesh {
         ensures low_cost { IfOk result HasLowCost }
     {
         self.mesh.ask(alloc, question)
+    }
+
+    /// The same; a search works in the room that the last one left.
+    pub(crate) fn ask_in_room(
+        &mut self,
+        alloc: Global,
+        question: &Question,
+    ) -> Result<Answer, AllocError>
+        requires sound { IsSound self.old }
+        requires setting { IsSetting self.old.setting }
+        requires question { IsAnswerable question.now }
+        ensures right { IfOk result (λ answer. IsRight self.old question.now answer) }
+        ensures low_cost { IfOk result HasLowCost }
+        ensures same { self.new ≡ self.old }
+    {
+        self.mesh.ask_in(alloc, &mut self.room, question)
+    }
+
+    /// The same for one who asks much: the question is counted first.
+    pub(crate) fn ask_and_prepare(
+        &mut self,
+        alloc: Global,
+        question: &Question,
+    ) -> Result<Answer, AllocError>
+        requires sound { IsSound self.old }
+        requires setting { IsSetting self.old.setting }
+        requires question { IsAnswerable question.now }
+        ensures right { IfOk result (λ answer. IsRight self.old question.now answer) }
+        ensures low_cost { IfOk result HasLowCost }
+        ensures same { self.new ≡ self.old }
+    {
+        self.count(alloc, question);
+        self.ask_in_room(alloc, question)
     }
 }

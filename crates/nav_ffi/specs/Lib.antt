@@ -10,3 +10,4 @@ pub mod Changing
 pub mod Version
 pub mod Registries
 pub mod Meshes
+pub mod Claims

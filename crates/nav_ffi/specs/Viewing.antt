@@ -23,6 +23,12 @@ IsLooked (Some state) before number ended =
     (ended ≡ record { status = status.ok; number = state.published; held = Some (shown_to (own_in before) state) })
     ⊎ (ended ≡ record { status = status.no_memory; number = number; held = before })
 
+-- a view was copied into a handle: that holds what the other one shows, with the costs that it has of its own, unless memory is refused; where there is
+-- no view nothing was done
+abbrev pub IsCopied : Option Seen → Option Seen → Option Seen → ℕ → Type 0
+IsCopied None before after ended = (ended ≡ status.empty) × (after ≡ before)
+IsCopied (Some seen) before after ended = ((ended ≡ status.ok) × (after ≡ Some seen)) ⊎ ((ended ≡ status.no_memory) × (after ≡ before))
+
 -- a view was given costs: where there is one it has them, unless memory is refused
 abbrev pub IsGiven : Option Seen → List ℕ → Option Seen → ℕ → Type 0
 IsGiven None costs after ended = (ended ≡ status.empty) × (after ≡ None)

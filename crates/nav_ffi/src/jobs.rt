@@ -81,7 +81,7 @@ pub extern "C" fn navd_build(alloc: Global, job: &mut NavdJob) -> u32
 }
 
 /// How a build that was handed in ends.
-fn submit_status(answer: Submitted) -> u32
+pub(crate) fn submit_status(answer: Submitted) -> u32
     ensures { result ≡ Rattle.nav_ffi.specs.Jobs.submit_status answer }
 {
     match answer {
@@ -91,7 +91,7 @@ fn submit_status(answer: Submitted) -> u32
 }
 
 /// Why a job may not be handed in, or that it may.
-fn readiness(work: &BuildJob, level: &Level) -> u32
+pub(crate) fn readiness(work: &BuildJob, level: &Level) -> u32
     ensures { IsReady work.now level.now.ground result }
 {
     if !work.is_of(level) {

@@ -1,4 +1,4 @@
-//! Obstacles by ids that stay, over the border: a registry begun of a level, changed, updated and looked at.
+//! Obstacles by ids that stay, over the border: a registry begun of a level, changed, updated, looked at, saved and restored.
 
 ghost use Rattle.std.specs.Prelude.{◌≡◌, None, not, ◌==◌};
 ghost use Rattle.nav_ground.specs.declared.shape.Shape.{Shape};
@@ -6,6 +6,7 @@ ghost use Rattle.nav_handle.specs.Statuses as status;
 ghost use Rattle.nav_ffi.specs.Registries.{IsRegistryLooked};
 ghost use Rattle.registry_handle.specs.Calls.{IsAdding, IsEnabled, IsMarked, IsMoved, IsRemoved};
 ghost use Rattle.registry_handle.specs.Rows.{AreRows};
+ghost use Rattle.registry_handle.specs.Saves.{IsRestoredFrom, IsSaving};
 ghost use Rattle.registry_handle.specs.Solids.{IsSolid};
 ghost use Rattle.registry_handle.specs.Updates.{IsBeginning, IsUpdating};
 
@@ -13,7 +14,8 @@ use crate::views::next_view;
 use nav_handle::{EMPTY, NO_MEMORY, NavdLevel, NavdView, OK};
 use registry_handle::{
     NavdRegistry, NavdRow, NavdSolid, NavdUpdated, add_obstacle, begin_registry, close_registry,
-    enable_obstacle, mark_obstacle, move_obstacle, remove_obstacle, tell_rows, update_registry,
+    enable_obstacle, mark_obstacle, move_obstacle, remove_obstacle, restore_registry,
+    save_registry, tell_rows, update_registry,
 };
 use std::alloc::Global;
 
@@ -158,4 +160,30 @@ pub extern "C" fn navd_registry_look(
         }
         Err(_) => NO_MEMORY,
     }
+}
+
+/// Lays what is saved of the registry into `bytes`, if there is room for all of it; how many bytes it has is left at `length`.
+#[unsafe(no_mangle)]
+pub extern "C" fn navd_registry_save(
+    alloc: Global,
+    registry: &mut NavdRegistry,
+    bytes: &mut [u8],
+    length: &mut usize,
+) -> u32
+    ensures saved { IsSaving registry.old.registry (length.old, bytes.old) (length.new, bytes.new) result }
+    ensures same { registry.new.registry ≡ registry.old.registry }
+{
+    save_registry(alloc, registry, bytes, length)
+}
+
+/// Puts the obstacles that were saved in the place of those of the registry.
+#[unsafe(no_mangle)]
+pub extern "C" fn navd_registry_restore(
+    alloc: Global,
+    registry: &mut NavdRegistry,
+    bytes: &[u8],
+) -> u32
+    ensures { IsRestoredFrom bytes.now registry.old.registry registry.new.registry result }
+{
+    restore_registry(alloc, registry, bytes)
 }

@@ -11,7 +11,7 @@ ghost use Rattle.nav_handle.specs.Telling.{PathRoom, told_floors, told_path, tol
 ghost use Rattle.nav_handle.specs.Walking.{WalkRoom, march_asked, send_asked, told_march, told_send, walk_ends};
 ghost use Rattle.nav_handle.specs.Wire.{path_asked, ray_asked};
 ghost use Rattle.nav_handle.specs.Looking.{AreShown, AreTold, faces_of, inner_links_of, border_links_of};
-ghost use Rattle.nav_ffi.specs.Viewing.{IsLooked, own_in, IsCosted};
+ghost use Rattle.nav_ffi.specs.Viewing.{IsCopied, IsLooked, own_in, IsCosted};
 ghost use Rattle.nav_handle.specs.Statuses as status;
 
 use nav_base::Question;
@@ -34,8 +34,8 @@ pub(crate) fn next_view(
     ensures made { IfOk result (λ made. made.value ≡ shown_to (own_in view.old.view) level.now) }
     ensures same { view.new.view ≡ view.old.view }
 {
-    let Some(held) = view.take(alloc) else {
-        return Ok(Box::new(alloc, MeshView::of(level)?)?);
+    let Some(mut held) = view.take(alloc) else {
+        return Ok(Box::new(alloc, MeshView::of(alloc, level)?)?);
     };
     let made = held.again(alloc, level);
     view.put(held);
@@ -65,6 +65,34 @@ pub extern "C" fn navd_look(
         Ok(made) => {
             view.put(made);
             *published = length;
+            OK
+        }
+        Err(_) => NO_MEMORY,
+    }
+}
+
+/// A further view of the mesh that a view shows, on the heap.
+fn copy_of(alloc: Global, view: &MeshView) -> Result<Box<MeshView, Global>, AllocError>
+    ensures { IfOk result (λ made. made.value ≡ view.now) }
+{
+    let made = view.duplicate(alloc)?;
+    Ok(Box::new(alloc, made)?)
+}
+
+/// Brings a view to what another one shows, with the costs that that one has of its own. What the view showed before is let go.
+#[unsafe(no_mangle)]
+pub extern "C" fn navd_view_copy(alloc: Global, to: &mut NavdView, from: &mut NavdView) -> u32
+    ensures copied { IsCopied from.old.view to.old.view to.new.view result }
+    ensures same { from.new.view ≡ from.old.view }
+{
+    let Some(held) = from.take(alloc) else {
+        return EMPTY;
+    };
+    let made = copy_of(alloc, &held);
+    from.put(held);
+    match made {
+        Ok(made) => {
+            to.put(made);
             OK
         }
         Err(_) => NO_MEMORY,

@@ -60,10 +60,10 @@ impl HasMesh for NavdLevel {
     ghost untouched = { λ handle. refl };
 
     fn ask(&mut self, alloc: Global, question: &Question) -> Result<Answer, u32> {
-        let Some(held) = self.take(alloc) else {
+        let Some(mut held) = self.take(alloc) else {
             return Err(EMPTY);
         };
-        let told = held.ask(alloc, question);
+        let told = held.ask_in_room(alloc, question);
         self.put(held);
         match told {
             Ok((_, answer)) => Ok(answer),
@@ -95,7 +95,7 @@ impl HasMesh for NavdView {
     ghost untouched = { λ handle. refl };
 
     fn ask(&mut self, alloc: Global, question: &Question) -> Result<Answer, u32> {
-        let Some(held) = self.take(alloc) else {
+        let Some(mut held) = self.take(alloc) else {
             return Err(EMPTY);
         };
         let told = held.ask(alloc, question);

@@ -12,23 +12,28 @@ ghost use Rattle.mesh_types.specs.Soundness.{IsSound};
 ghost use Rattle.path_queries.specs.Floods.{CanFlood};
 ghost use Rattle.path_queries.specs.FloodsBack.{IsRightFloodBack};
 
+use graph_search::Room;
 use mesh_types::{Answer, Asked, Mesh, copy_mesh};
 use nav_base::Question;
 use nav_book::Level;
 use nav_ground::{AREAS, tiles};
 use nav_lists::Shared;
-use nav_query::Asking;
+use nav_query::PreparedMesh;
 use path_queries::{FloodAnswer, FloodQuery, flood_back};
 use std::alloc::{AllocError, Global};
 use std::marker::Model;
+use std::mem::replace;
 
 /// A mesh that a level had published, with the length that it was published with. It is an owner of the mesh, which stays as it is whatever
-/// comes of the level. It may have costs of areas of its own, which then stand in its mesh in place of the level's.
+/// comes of the level, and of its landmarks, where the level had some. It may have costs of areas of its own, which then stand in its mesh in
+/// place of the level's.
 #[derive(Drop)]
 pub struct MeshView {
     length: u32,
-    mesh: Shared<Mesh>,
+    mesh: PreparedMesh,
     own: Option<[u32; AREAS]>,
+    /// Memory that the searches for paths work in.
+    room: Room,
 }
 
 impl Model for MeshView {
@@ -43,31 +48,49 @@ impl Model for MeshView {
 
 impl MeshView {
     /// A view of what a level has published. It takes no memory; it is refused only where the count of the mesh's owners has reached its end.
-    pub fn of(level: &Level) -> Result<MeshView, AllocError>
+    pub fn of(alloc: Global, level: &Level) -> Result<MeshView, AllocError>
         ensures { IfOk result (λ view. view ≡ shown_by level.now) }
     {
-        let mesh = level.shared_mesh()?;
+        let mesh = level.prepared_mesh()?;
         let _shown = level.mesh();
         Ok(MeshView {
             length: level.published(),
             mesh,
             own: None,
+            room: Room::new(alloc),
         })
     }
 
-    /// A view of what a level has published, with the costs that this one has of its own, if it has some.
-    pub fn again(&self, alloc: Global, level: &Level) -> Result<MeshView, AllocError>
-        ensures { IfOk result (λ view. view ≡ shown_to self.now.own level.now) }
+    /// A view of what a level has published, with the costs that this one has of its own, if it has some. It takes over the memory that searches
+    /// work in.
+    pub fn again(&mut self, alloc: Global, level: &Level) -> Result<MeshView, AllocError>
+        ensures view { IfOk result (λ view. view ≡ shown_to self.old.own level.now) }
+        ensures same { self.new ≡ self.old }
     {
-        let view = MeshView::of(level)?;
-        match self.own {
-            Some(costs) => view.costing(alloc, costs),
-            None => Ok(view),
-        }
+        let shown = MeshView::of(alloc, level)?;
+        let mut view = match self.own {
+            Some(costs) => shown.costing(alloc, costs)?,
+            None => shown,
+        };
+        view.room = replace(&mut self.room, Room::new(alloc));
+        Ok(view)
+    }
+
+    /// A further view of the same mesh, with the same costs of its own, for another thread. It takes no memory; it is refused only where the count of
+    /// the mesh's owners has reached its end.
+    pub fn duplicate(&self, alloc: Global) -> Result<MeshView, AllocError>
+        ensures { IfOk result (λ view. view ≡ self.now) }
+    {
+        Ok(MeshView {
+            length: self.length,
+            mesh: self.mesh.share()?,
+            own: self.own,
+            room: Room::new(alloc),
+        })
     }
 
     /// The same view with other costs of areas: what a sixteenth of a cell of way costs in each, by its number. All that it shares with the
-    /// level but the list of tiles stays shared.
+    /// level but the list of tiles stays shared. It has no landmarks: those of the level are of the level's costs.
     pub fn costing(&self, alloc: Global, costs: [u32; AREAS]) -> Result<MeshView, AllocError>
         requires { AreCosts costs }
         ensures { IfOk result (λ view. view ≡ seen_at costs self.now) }
@@ -75,8 +98,9 @@ impl MeshView {
         let mesh = with_costs(alloc, self.mesh.get(), costs)?;
         Ok(MeshView {
             length: self.length,
-            mesh: Shared::new(alloc, mesh)?,
+            mesh: PreparedMesh::new(Shared::new(alloc, mesh)?),
             own: Some(costs),
+            room: Room::new(alloc),
         })
     }
 
@@ -101,16 +125,14 @@ impl MeshView {
         tiles(&self.mesh.get().setting)
     }
 
-    /// An answer that is right in its mesh.
-    pub fn ask(&self, alloc: Global, question: &Question) -> Result<Answer, AllocError>
+    /// An answer that is right in its mesh. The memory that a search for a path works in is kept for the next.
+    pub fn ask(&mut self, alloc: Global, question: &Question) -> Result<Answer, AllocError>
         requires { IsAnswerable question.now }
-        ensures right { IfOk result (IsRight self.now.mesh question.now) }
+        ensures right { IfOk result (IsRight self.old.mesh question.now) }
         ensures low_cost { IfOk result HasLowCost }
+        ensures same { self.new ≡ self.old }
     {
-        let asking = Asking {
-            question: *question,
-        };
-        asking.ask(alloc, self.mesh.get())
+        self.mesh.ask_in(alloc, &mut self.room, question)
     }
 
     /// An answer to a question of any kind that is right in its mesh.

@@ -1,8 +1,10 @@
 //! A tile that is built for a level beside whoever changes it. Whether two grounds are the same as far as one tile goes.
 
-ghost use Rattle.std.specs.Prelude.{◌≡◌, ◌↔◌, ◌+◌, true, IfOk, IfSome, IsTrue, OnErr, OnOk, option_map, ◌<◌};
-ghost use Rattle.build_queue.specs.Steps.{after_claim, after_put_back, after_submit, submission};
-ghost use Rattle.nav_handle.specs.Works.{IsOf, built, next_work, AreSameAt};
+ghost use Rattle.std.specs.Prelude.{◌≡◌, ◌↔◌, ◌+◌, true, IfOk, IfSome, IsTrue, OnErr, OnOk, option_map, ◌<◌, is_some};
+ghost use Rattle.std.specs.Arc.{arc_value};
+ghost use Rattle.build_queue.specs.Steps.{IsJob, after_claim, after_put_back, after_submit, submission};
+ghost use Rattle.nav_book.specs.LevelResults.{tile_under};
+ghost use Rattle.nav_handle.specs.Works.{IsOf, begun, built, next_work, AreSameAt};
 ghost use Rattle.nav_ground.specs.Grounds.{IsGround};
 ghost use Rattle.nav_ground.specs.Tiling.{tile_count};
 
@@ -36,6 +38,34 @@ impl Model for BuildJob {
 }
 
 impl BuildJob {
+    /// A job that was claimed of a level by its owner; its tile is not built yet.
+    pub fn of(ground: Arc<Ground>, job: Job) -> BuildJob
+        requires ground { IsGround (arc_value ground) }
+        requires job { IsJob (arc_value ground).setting job }
+        ensures { result ≡ begun (arc_value ground) job }
+    {
+        BuildJob {
+            ground,
+            job,
+            mesh: None,
+        }
+    }
+
+    /// The job, and the mesh of its tile, if that is built.
+    pub fn into_parts(self) -> (Job, Option<Shared<TileMesh>>)
+        ensures job { result.0 ≡ self.job }
+        ensures rules { IsJob self.ground.setting self.job }
+        ensures built { is_some result.1 ≡ self.built }
+        ensures mesh { IfSome result.1 (λ mesh. mesh ≡ tile_under self.ground self.job.tile self.job.shapes) }
+    {
+        let BuildJob {
+            ground: _,
+            job,
+            mesh,
+        } = self;
+        (job, mesh)
+    }
+
     /// Claims the least tile of a level that is awaited and not claimed; none exactly where there is no such tile. Where memory is refused,
     /// nothing has changed.
     pub fn claim(

@@ -12,6 +12,7 @@ ghost use Rattle.nav_query.specs.Questions.{HasLowCost, IsAnswerable, CanAsk, Is
 use crate::paths::{PathEnds, path};
 use crate::rays::{floors, ray};
 use corridor_search::Landmarks;
+use graph_search::Room;
 use mesh_types::{Asked, Mesh};
 use nav_base::Question;
 use nav_lists::Items;
@@ -32,13 +33,16 @@ pub fn answer(
     // Every right answer is of this kind, with the same floors, or the same first polygon and cost; a right answer to a ray is equal to it.
     ensures only { IfOk result (λ answer. (other : Answer) → IsRight mesh.now question.now other → AreAlike answer other) }
 {
-    answer_by(alloc, mesh, None, question)
+    let mut room = Room::new(alloc);
+    answer_in(alloc, &mut room, mesh, None, question)
 }
 
-/// The same with landmarks of the mesh, where there are some: the search for a path then closes fewer polygons.
+/// The same with landmarks of the mesh, where there are some: the search for a path then closes fewer polygons. It works in room that an earlier
+/// search may have left.
 #[tactic(auto, using(mesh_types::proofs::RightLaws::alike))]
-pub fn answer_by(
+pub fn answer_in(
     alloc: Global,
+    room: &mut Room,
     mesh: &Mesh,
     landmarks: Option<&Landmarks>,
     question: &Question,
@@ -63,6 +67,7 @@ pub fn answer_by(
             to_y,
         } => path(
             alloc,
+            room,
             mesh,
             landmarks,
             PathEnds {

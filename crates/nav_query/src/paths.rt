@@ -12,8 +12,9 @@ ghost use Rattle.mesh_types.specs.Soundness.{IsSound};
 ghost use Rattle.mesh_types.specs.Taut.{IsTaut};
 ghost use Rattle.nav_query.specs.Questions.{HasLowCost};
 
-use corridor_search::{Landmarks, cheapest_by};
+use corridor_search::{Landmarks, cheapest_in};
 use funnel_path::pull;
+use graph_search::Room;
 use mesh_locate::locate;
 use mesh_types::{Answer, Corner, Link, Mesh, PathFound, Portal};
 use nav_base::Point;
@@ -30,9 +31,10 @@ pub struct PathEnds {
 }
 
 /// A right answer to the question for a path from one place to another. Landmarks of the mesh, if there are some, let the search close fewer
-/// polygons.
+/// polygons. The search works in room that an earlier one may have left.
 pub fn path(
     alloc: Global,
+    room: &mut Room,
     mesh: &Mesh,
     landmarks: Option<&Landmarks>,
     ends: PathEnds,
@@ -51,7 +53,7 @@ pub fn path(
     let Some(last) = locate(mesh, ends.to, ends.to_y) else {
         return Ok(Answer::NoGoal);
     };
-    let Some(corridor) = cheapest_by(alloc, mesh, landmarks, first, last)? else {
+    let Some(corridor) = cheapest_in(alloc, room, mesh, landmarks, first, last)? else {
         return Ok(Answer::NoPath);
     };
     let turns = turns(alloc, ends.from, corridor.links.as_slice(), ends.to)?;

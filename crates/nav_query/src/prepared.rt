@@ -9,8 +9,9 @@ ghost use Rattle.corridor_search.specs.Changes.{DifferIn};
 ghost use Rattle.corridor_search.specs.Landmarks.{AreLandmarks};
 ghost use Rattle.nav_query.specs.Questions.{HasLowCost, IsAnswerable};
 
-use crate::answering::answer_by;
+use crate::answering::answer_in;
 use corridor_search::{Landmarks, kept_landmarks, landmarks_of};
+use graph_search::Room;
 use mesh_types::{Answer, Mesh, TileMesh};
 use nav_base::Question;
 use nav_ground::TileNo;
@@ -120,9 +121,27 @@ impl PreparedMesh {
         ensures right { IfOk result (λ answer. IsRight self.now question.now answer) }
         ensures low_cost { IfOk result HasLowCost }
     {
+        let mut room = Room::new(alloc);
+        self.ask_in(alloc, &mut room, question)
+    }
+
+    /// The same, in room that an earlier search may have left.
+    pub fn ask_in(
+        &self,
+        alloc: Global,
+        room: &mut Room,
+        question: &Question,
+    ) -> Result<Answer, AllocError>
+        requires sound { IsSound self.now }
+        requires setting { IsSetting self.now.setting }
+        requires question { IsAnswerable question.now }
+        ensures right { IfOk result (λ answer. IsRight self.now question.now answer) }
+        ensures low_cost { IfOk result HasLowCost }
+    {
+        let mesh = self.mesh.get();
         match &self.landmarks {
-            Some(landmarks) => answer_by(alloc, self.mesh.get(), Some(landmarks.get()), question),
-            None => answer_by(alloc, self.mesh.get(), None, question),
+            Some(landmarks) => answer_in(alloc, room, mesh, Some(landmarks.get()), question),
+            None => answer_in(alloc, room, mesh, None, question),
         }
     }
 }

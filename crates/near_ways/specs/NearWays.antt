@@ -1,5 +1,5 @@
 -- Near ways: which questions for a way between the places nearest to two points may be asked, and which answers are right.
-use Rattle.std.specs.Prelude.{ℕ, ◌<◌, ◌≤◌}
+use Rattle.std.specs.Prelude.{◌<◌, ◌≤◌}
 use Rattle.mesh_place.specs.declared.near.NearAnswer.TheVariants.{NoneInReach}
 use Rattle.mesh_place.specs.Nearest.{CanAskNear, IsNearest, IsRightNear}
 use Rattle.mesh_types.specs.declared.mesh.Mesh.{Mesh}

@@ -7,3 +7,9 @@ pub mod Keeping
 pub mod Switching
 pub mod Updating
 pub mod Renewing
+pub mod Claiming
+pub mod Placing
+pub mod SavedLaws
+pub mod Requests
+pub mod SwitchingOn
+pub mod RestoreLaws

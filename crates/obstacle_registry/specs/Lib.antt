@@ -2,5 +2,8 @@ pub mod Registry
 pub mod Changes
 pub mod Updates
 pub mod Renewal
+pub mod Saving
+pub mod Restoring
 pub mod LiveNumbers
 pub mod Representation
+pub mod Claims

@@ -9,14 +9,23 @@
 //! Where the history may not have two entries more, what would make one is refused (`HistoryFull`). `renew_if_due` begins it again before that,
 //! once all of it is shown: the obstacles stay as they are, and so does what is shown.
 //!
+//! Tiles may be built by other threads beside the updates: they are claimed, and handed in or put back, as those of a `Level`.
+//!
+//! `save` gives the obstacles as bytes (`registry_format`), with their ids, which of them are on, the last id and the version; `restore` puts those
+//! of such bytes in the place of all others, for a level with the same field, tiles and limit.
+//!
 //! `row`: an obstacle, and why a call is refused. `live`: a level with the numbers of its alive obstacles at hand. `renew`: numbers once a history
-//! has begun again. `update`: the steps of an update. `registry`: the rows.
+//! has begun again. `update`: the steps of an update. `registry`: the rows. `claims`: tiles that other threads build. `saving`: rows as they are
+//! saved. `restoring`: a registry saved and restored.
 #![tactic(auto)]
 
+mod claims;
 mod live;
 mod registry;
 mod renew;
+mod restoring;
 mod row;
+mod saving;
 mod update;
 
 pub use registry::Registry;

@@ -1,6 +1,6 @@
 //! A level with the numbers of its obstacles that are alive at hand.
 
-ghost use Rattle.std.specs.Prelude.{◌≡◌, ◌+◌, ◌≤◌, ◌<◌, ◌++◌, ◌∷◌, [], ◌==◌, false, true, length, filter, not, vec_capacity, IfOk, OnOk, OnErr};
+ghost use Rattle.std.specs.Prelude.{◌≡◌, ◌+◌, ◌≤◌, ◌<◌, ◌^◌, ◌++◌, ◌∷◌, [], ◌==◌, false, true, length, filter, not, vec_capacity, IfOk, OnOk, OnErr};
 ghost use Rattle.std.specs.List.{list_any};
 ghost use Rattle.build_queue.specs.BookState.{IsBook};
 ghost use Rattle.nav_ground.specs.History.{history_limit};
@@ -12,6 +12,8 @@ ghost use Rattle.build_queue.specs.StepContracts.{IsRenewStep};
 ghost use Rattle.nav_book.specs.LevelResults.{published_mesh};
 ghost use Rattle.obstacle_registry.specs.Registry.{alive_now, has_room, is_crowded};
 ghost use Rattle.obstacle_registry.specs.Renewal.{is_due};
+ghost use Rattle.obstacle_registry.specs.Restoring.{all_removed};
+ghost use Rattle.obstacle_registry.specs.Saving.{has_room_for};
 
 use crate::renew::count_up;
 use crate::update::{Updated, update};
@@ -28,7 +30,7 @@ const LONG_HISTORY: u32 = 131072;
 /// A level, and the numbers of its obstacles that are alive, rising. It is seen as the level.
 #[derive(Drop)]
 pub(crate) struct LiveLevel {
-    level: Box<Level, Global>,
+    pub(crate) level: Box<Level, Global>,
     numbers: Vec<u32>,
 }
 
@@ -109,6 +111,27 @@ impl LiveLevel {
         let _ = self.level.request(0, Request::Remove(number));
     }
 
+    /// Whether the history may have an entry more for each obstacle that is alive, and so many besides.
+    pub(crate) fn has_room_for(&self, count: usize) -> bool
+        requires { count < 2 ^ 32 }
+        ensures { result ≡ has_room_for count self.now }
+    {
+        self.level.length() as usize + (self.numbers.len() + count) <= HISTORY_LIMIT as usize
+    }
+
+    /// Takes all obstacles down that are alive.
+    pub(crate) fn take_all_down(&mut self)
+        requires { length self.old.history + length (alive_now self.old) ≤ history_limit }
+        ensures state { self.new ≡ all_removed self.old }
+        ensures none { alive_now self.new ≡ [] }
+        ensures rules { IsBook self.new }
+    {
+        for _ in 0..self.numbers.len() {
+            let number = self.numbers[0];
+            self.take_down(number);
+        }
+    }
+
     /// Updates the level.
     pub(crate) fn update<L: Ledger>(
         &mut self,
@@ -147,6 +170,7 @@ impl LiveLevel {
     pub(crate) fn numbers(&self) -> &[u32]
         ensures value { result.now ≡ alive_now self.now }
         ensures few { length result.now ≤ 1024 }
+        ensures limit { length result.now ≤ self.now.ground.setting.limit }
         ensures rules { IsBook self.now }
     {
         self.numbers.as_slice()

@@ -31,13 +31,13 @@ const ROW_LIMIT: usize = 65536;
 /// A level whose obstacles have ids that stay.
 #[derive(Drop)]
 pub struct Registry {
-    level: LiveLevel,
+    pub(crate) level: LiveLevel,
     /// By their ids, rising.
-    rows: Vec<Registered>,
+    pub(crate) rows: Vec<Registered>,
     /// The last id that was given.
-    last: u64,
+    pub(crate) last: u64,
     /// How often something new was shown.
-    version: u64,
+    pub(crate) version: u64,
 }
 
 impl Model for Registry {
@@ -343,7 +343,7 @@ impl Registry {
     }
 
     /// Switches the obstacle of the row at a place on that is off, with the shape of a row that is to stand there.
-    fn switch_on(&mut self, place: usize, row: Registered)
+    pub(crate) fn switch_on(&mut self, place: usize, row: Registered)
         requires there { IsOffAt self.old.rows place row.id }
         requires shape { IsShape row.shape }
         requires few { is_crowded self.old.book ≡ false }

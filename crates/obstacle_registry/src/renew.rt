@@ -17,7 +17,7 @@ pub(crate) fn count_up(numbers: &mut [u32])
 }
 
 /// How many of the numbers, which rise, are not above one.
-fn rank(numbers: &[u32], number: u32) -> u32
+pub(crate) fn rank(numbers: &[u32], number: u32) -> u32
     requires rising { AllPairs (λ a b. a < b) numbers.now }
     requires few { length numbers.now ≤ 1024 }
     ensures { result ≡ Rattle.obstacle_registry.specs.Renewal.rank numbers.now number }

@@ -21,10 +21,14 @@ pub enum Refused {
     NoObstacle,
     /// The obstacle is on already, or off already.
     Same,
-    /// As many obstacles are on as may be, or as many are kept, or all ids were given.
+    /// As many obstacles are on as may be, or as many are kept, or all ids were given, or all versions shown.
     TooMany,
-    /// The history may not have two entries more.
+    /// The history may not have two entries more, or those of all obstacles that go and come where they are restored.
     HistoryFull,
     /// Memory was refused.
     NoMemory,
+    /// The bytes are those of no saved registry.
+    NotSaved,
+    /// What was saved is of another field, other tiles or another limit.
+    Foreign,
 }

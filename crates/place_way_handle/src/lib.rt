@@ -5,7 +5,6 @@
 //! limits is told before all else, and nothing is asked then. A list is told as far as there is room, with how many elements it has.
 #![tactic(auto)]
 
-mod filters;
 mod found;
 mod rays;
 mod snapped;

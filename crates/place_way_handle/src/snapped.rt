@@ -9,13 +9,13 @@ ghost use Rattle.near_ways.specs.NearWays.{CanAskNearWay, IsRightNearWay};
 ghost use Rattle.place_way_handle.specs.Finding.{found_ends};
 ghost use Rattle.place_way_handle.specs.Snapping.{NearWayRoom, near_way_asked, told_near_way};
 
-use crate::filters::filter_of;
 use crate::found::{NavdFoundWay, found_status, tell_found};
 use nav_handle::{HasMesh, NavdLink, OUT_OF_RANGE};
 use near_ways::NearWayQuery;
 use place_handle::{NavdNear, NavdPlace, near_of};
 use place_ways::PlaceWayAnswer;
 use std::alloc::Global;
+use way_handle::filter_of;
 
 /// Near which point and height a way begins and near which it ends, which areas it may enter, bit a for area a, and what ends the search for it,
 /// which the host writes; and what is found, which the call tells.

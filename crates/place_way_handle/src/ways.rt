@@ -9,12 +9,12 @@ ghost use Rattle.place_way_handle.specs.Joining.{WayRoom, told_way, way_asked};
 ghost use Rattle.place_ways.specs.declared.ways.PlaceWayQuery.{PlaceWayQuery};
 ghost use Rattle.place_ways.specs.Ways.{CanAskWay, IsRightPlaceWay};
 
-use crate::filters::filter_of;
 use crate::found::{NavdFoundWay, found_status, tell_found};
 use nav_handle::{HasMesh, NavdLink, OUT_OF_RANGE, has_coordinates};
 use place_handle::{NavdPlace, place_of};
 use place_ways::{PlaceWayAnswer, PlaceWayQuery};
 use std::alloc::Global;
+use way_handle::filter_of;
 
 /// From which place to which a way leads, which areas it may enter, bit a for area a, and what ends the search for it, which the host writes; and
 /// what is found, which the call tells.

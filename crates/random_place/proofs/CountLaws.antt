@@ -1,13 +1,16 @@
 -- How many spots there can be, and that counts are lengths of lists of spots.
-use Rattle.std.proofs.Common.{◌≡◌, ℕ, ◌+◌, ◌*◌, ◌≤◌, ◌<◌, Bool, true, false, List, [], length, get_or, take, refl, ap, ◌∙◌, arith}
-use Rattle.std.specs.Prelude.{sum_by, if◌then◌else◌}
+use Rattle.std.proofs.Common.{◌≡◌, ℕ, suc, ◌+◌, ◌*◌, ◌≤◌, ◌<◌, Bool, true, false, List, [], ◌∷◌, length, get_or, take, refl, sym, ap, ◌∙◌, arith}
+use Rattle.std.specs.Prelude.{All, Some, slice_get, sum_by, if◌then◌else◌}
 use Rattle.std.specs.Int.{div_ceil}
 use Rattle.std.specs.List.{enumerate_from}
 use Rattle.std.proofs.Math.Nat.{div-le_self}
 use Rattle.std.proofs.lemmas.List.{length-map}
 use Rattle.std.proofs.lemmas.List.FromFn.{length-enumerate_from}
-use Rattle.std.proofs.lemmas.List.Sums.{sum_by-le, sum_by_more, sum_by_more_le}
+use Rattle.std.proofs.lemmas.List.Sums.{sum_by-cons, sum_by-le, sum_by_more, sum_by_more_le}
+use Rattle.std.proofs.lemmas.Bool.{eq-eqb}
 use Rattle.std.proofs.lemmas.Nat.{mul-le}
+use Rattle.std.proofs.lemmas.Nat.Bits.{bit_at_ones}
+use Rattle.std.proofs.lemmas.Option.{slice_get_read}
 use Rattle.nav_ground.specs.declared.setting.Setting.{Setting}
 use Rattle.nav_ground.specs.Limits.{IsSetting}
 use Rattle.nav_ground.specs.Tiling.{tile_count}
@@ -17,8 +20,10 @@ use Rattle.mesh_types.specs.declared.storeys.FloorRow.{FloorRow}
 use Rattle.mesh_types.specs.declared.storeys.Storey.{Storey}
 use Rattle.mesh_types.specs.Storeys.{AreStoreys, IsStorey}
 use Rattle.random_place.specs.declared.spots.Home.{Home}
+use Rattle.mesh_types.specs.declared.reaches.StoreyReach.{StoreyReach}
+use Rattle.mesh_types.specs.Reaches.{IsReach, cell_count}
 use Rattle.mesh_place.specs.Nearest.{is_open}
-use Rattle.random_place.specs.Spots.{cell_count, open_cells, open_cells_in, spot_count, row_spots, storey_spots, open_spots, tile_spots, spots_of}
+use Rattle.random_place.specs.Spots.{open_cells, open_cells_in, spot_count, row_spots, storey_spots, open_spots, tile_spots, spots_of}
 use Rattle.random_place.proofs.Numbered.{length_numbered}
 
 -- ---- limits
@@ -42,6 +47,46 @@ pub tile_fits : (areas : ℕ) (storeys : List Storey) → AreStoreys storeys →
 tile_fits areas storeys rules short =
     let each = sum_by-le (open_cells areas) 1048576 storeys (λ i d there. open_fit areas (get_or storeys i d) (rules i d there)) in
     omega (arith, short, each)
+
+-- ---- one area
+
+same_sums : {X : Type 0} (f g : X → ℕ) (xs : List X) → All (λ x. f x ≡ g x) xs → sum_by f xs ≡ sum_by g xs
+same_sums f g [] all = refl
+same_sums f g (x ∷ xs) all =
+    let first : f x ≡ g x = all 0 x (omega arith) in
+    let rest = same_sums f g xs (λ k d there. all (suc k) d (omega (arith, there))) in
+    omega (arith, sum_by-cons f x xs, sum_by-cons g x xs, first, rest)
+
+where_open : (areas : ℕ) (storey : Storey) → is_open areas storey.area ≡ true → cell_count storey ≡ open_cells areas storey
+where_open areas storey opened = sym (ap (λ (b : Bool). if b then cell_count storey else 0) opened)
+
+-- where all areas are open, and where all storeys are of one open area, all cells are spots; where that area is closed, none are
+pub all_open : (areas : ℕ) (storeys : List Storey) → AreStoreys storeys → areas ≡ 18446744073709551615 → sum_by cell_count storeys ≡ open_cells_in areas storeys
+all_open areas storeys rules all =
+    same_sums cell_count (open_cells areas) storeys (λ i d there. where_open areas (get_or storeys i d) (opened (get_or storeys i d) (rules i d there)))
+  where
+    opened : (storey : Storey) → IsStorey storey → is_open areas storey.area ≡ true
+    opened storey rules' =
+        let area = rules'.area in
+        ap (λ (n : ℕ). is_open n storey.area) all ∙ eq-eqb _ 1 (bit_at_ones 64 storey.area (omega (arith, area)))
+
+pub one_open : (areas area : ℕ) (storeys : List Storey) → All (λ (storey : Storey). storey.area ≡ area) storeys → is_open areas area ≡ true
+    → sum_by cell_count storeys ≡ open_cells_in areas storeys
+one_open areas area storeys are opened =
+    same_sums cell_count (open_cells areas) storeys (λ i d there. where_open areas (get_or storeys i d) (ap (is_open areas) (are i d there) ∙ opened))
+
+pub none_open : (areas area : ℕ) (storeys : List Storey) → All (λ (storey : Storey). storey.area ≡ area) storeys → is_open areas area ≡ false
+    → 0 ≡ open_cells_in areas storeys
+none_open areas area storeys are closed =
+    omega (arith, sum_by-le (open_cells areas) 0 storeys (λ i d there. one (get_or storeys i d) (are i d there)))
+  where
+    one : (storey : Storey) → storey.area ≡ area → open_cells areas storey ≤ 0
+    one storey is = omega (arith, ap (λ (b : Bool). if b then cell_count storey else 0) (ap (is_open areas) is ∙ closed))
+
+-- the reach of a storey of a list
+pub reach_at : (list : List Storey) (i : ℕ) (storey : Storey) (reach : StoreyReach) → i < length list → storey ≡ get_or list i storey
+    → ((it : Storey) → slice_get list i ≡ Some it → IsReach it reach) → IsReach storey reach
+reach_at list i storey reach there is right = right storey (slice_get_read list (length list) i storey refl there is)
 
 -- ---- lengths
 

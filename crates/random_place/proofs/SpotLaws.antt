@@ -10,8 +10,9 @@ use Rattle.mesh_types.specs.declared.storeys.Storey.{Storey}
 use Rattle.mesh_types.specs.Storeys.{HasFloor}
 use Rattle.random_place.specs.declared.spots.Home.{Home}
 use Rattle.random_place.specs.declared.spots.StoreyCell.{StoreyCell}
+use Rattle.mesh_types.specs.Reaches.{cell_count}
 use Rattle.mesh_place.specs.Nearest.{is_open}
-use Rattle.random_place.specs.Spots.{cell_count, open_cells, row_spots, storey_spots, open_spots, tile_spots, spots_of}
+use Rattle.random_place.specs.Spots.{open_cells, row_spots, storey_spots, open_spots, tile_spots, spots_of}
 use Rattle.random_place.proofs.Numbered.{given_by}
 
 -- ---- the lists that searches go through, from a place on

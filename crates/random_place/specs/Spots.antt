@@ -1,10 +1,11 @@
 -- Spots: the cells of the storeys of open areas, tile by tile, storey by storey, row by row.
-use Rattle.std.specs.Prelude.{ℕ, ◌<◌, if◌then◌else◌, List, [], map, length, sum_by, flat_map}
+use Rattle.std.specs.Prelude.{ℕ, ◌<◌, if◌then◌else◌, List, [], map, sum_by, flat_map}
 use Rattle.std.specs.List.{enumerate_from}
 use Rattle.mesh_types.specs.declared.mesh.Mesh.{Mesh}
 use Rattle.mesh_types.specs.declared.mesh.TileMesh.{TileMesh}
 use Rattle.mesh_types.specs.declared.storeys.FloorRow.{FloorRow}
 use Rattle.mesh_types.specs.declared.storeys.Storey.{Storey}
+use Rattle.mesh_types.specs.Reaches.{cell_count}
 use Rattle.mesh_place.specs.Nearest.{is_open}
 use Rattle.random_place.specs.declared.spots.Home.{Home}
 use Rattle.random_place.specs.declared.spots.StoreyCell.{StoreyCell}
@@ -31,10 +32,7 @@ tile_spots areas tile storeys =
 unfoldable pub spots_of : Mesh → ℕ → List StoreyCell
 spots_of mesh areas = flat_map (λ (tile : ℕ × TileMesh). tile_spots areas tile.0 tile.1.storeys.list) (enumerate_from 0 mesh.tiles)
 
--- how many cells a storey has, how many of them are spots, and how many spots storeys and tiles have
-abbrev pub cell_count : Storey → ℕ
-cell_count storey = sum_by (λ (row : FloorRow). length row.floors) storey.rows
-
+-- how many cells of a storey are spots, and how many spots storeys and tiles have
 abbrev pub open_cells : ℕ → Storey → ℕ
 open_cells areas storey = if is_open areas storey.area then cell_count storey else 0
 

@@ -3,11 +3,12 @@
 ghost use Rattle.std.specs.Prelude.{◌≡◌, ◌^◌, ◌≤◌, ◌<◌, length};
 ghost use Rattle.nav_ground.specs.Limits.{IsSetting};
 ghost use Rattle.mesh_place.specs.Nearest.{is_open};
+ghost use Rattle.mesh_types.specs.Reaches.{IsReach};
 ghost use Rattle.mesh_types.specs.Soundness.{IsSound};
-ghost use Rattle.mesh_types.specs.Storeys.{AreStoreys, IsStorey};
-ghost use Rattle.random_place.specs.Spots.{cell_count, open_cells, open_cells_in, spots_of};
+ghost use Rattle.mesh_types.specs.Storeys.{IsStorey};
+ghost use Rattle.random_place.specs.Spots.{open_cells, open_cells_in, spots_of};
 
-use mesh_types::{Mesh, Storey};
+use mesh_types::{Mesh, Storey, StoreyReach, Storeys};
 
 /// How many spots a mesh has. The storeys of a tile have no limit but memory, so that the count is in 128 bits.
 pub(crate) fn count_spots(mesh: &Mesh, areas: u64) -> u128
@@ -18,49 +19,60 @@ pub(crate) fn count_spots(mesh: &Mesh, areas: u64) -> u128
 {
     let mut count = 0;
     for tile in 0..mesh.tiles.len() {
-        count += count_in_tile(mesh.tiles.at(tile).get().storeys.list(), areas);
+        count += count_in_tile(&mesh.tiles.at(tile).get().storeys, areas);
     }
     count
 }
 
-/// How many cells the storeys of a tile have that are of an open area.
-pub(crate) fn count_in_tile(storeys: &[Storey], areas: u64) -> u128
-    requires { AreStoreys storeys.now }
-    ensures value { result ≡ open_cells_in areas storeys.now }
+/// How many cells the storeys of a tile have that are of an open area. Storeys are looked at one by one only where they are of several areas,
+/// some of them closed.
+pub(crate) fn count_in_tile(storeys: &Storeys, areas: u64) -> u128
+    ensures value { result ≡ open_cells_in areas storeys.now.list }
     ensures bound { result ≤ 2 ^ 84 }
 {
-    let mut count = 0;
-    for storey in storeys {
-        count += u128::from(count_open(storey, areas));
+    if storeys.list().is_empty() {
+        return 0;
     }
-    count
-}
-
-/// How many cells a storey has; none where its area is not open.
-pub(crate) fn count_open(storey: &Storey, areas: u64) -> u32
-    requires { IsStorey storey.now }
-    ensures value { result ≡ open_cells areas storey.now }
-    ensures bound { result ≤ 1048576 }
-{
-    if is_open(areas, storey.area) {
-        count_cells(storey)
+    let whole = storeys.whole();
+    if areas == u64::MAX {
+        return whole.cells;
+    }
+    if whole.area == 0 || whole.area > 63 {
+        return count_by_storey(storeys, areas);
+    }
+    if is_open(areas, whole.area) {
+        whole.cells
     } else {
         0
     }
 }
 
-/// How many cells a storey has.
-fn count_cells(storey: &Storey) -> u32
-    requires { IsStorey storey.now }
-    ensures value { result ≡ cell_count storey.now }
-    ensures bound { result ≤ 1048576 }
+/// The same, storey by storey.
+fn count_by_storey(storeys: &Storeys, areas: u64) -> u128
+    ensures value { result ≡ open_cells_in areas storeys.now.list }
+    ensures bound { result ≤ 2 ^ 84 }
 {
-    let rows = storey.rows.as_slice();
+    let list = storeys.list();
     let mut count = 0;
-    for row in rows {
-        count += row.floors.len() as u32;
+    for storey in 0..list.len() {
+        let here = &list[storey];
+        count += u128::from(count_open(here, storeys.reach(storey), areas));
     }
     count
+}
+
+/// How many cells a storey has, by its reach; none where its area is not open.
+pub(crate) fn count_open(storey: &Storey, reach: StoreyReach, areas: u64) -> u32
+    requires storey { IsStorey storey.now }
+    requires reach { IsReach storey.now reach }
+    ensures value { result ≡ open_cells areas storey.now }
+    ensures bound { result ≤ 1048576 }
+{
+    if is_open(areas, storey.area) {
+        reach.cells
+    } else {
+        0
+    }
 }
 
 /// Whether an area is open.

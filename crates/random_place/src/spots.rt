@@ -3,11 +3,11 @@
 ghost use Rattle.std.specs.Prelude.{◌≡◌, ◌<◌, IfSome, slice_get};
 ghost use Rattle.nav_ground.specs.Limits.{IsSetting};
 ghost use Rattle.mesh_types.specs.Soundness.{IsSound};
-ghost use Rattle.mesh_types.specs.Storeys.{AreStoreys, IsFloorRow, IsStorey};
+ghost use Rattle.mesh_types.specs.Storeys.{IsFloorRow, IsStorey};
 ghost use Rattle.random_place.specs.Spots.{IsInField, row_spots, spots_of, storey_spots, tile_spots};
 
 use crate::counts::{count_in_tile, count_open};
-use mesh_types::{FloorRow, Mesh, Storey};
+use mesh_types::{FloorRow, Mesh, Storey, Storeys};
 
 /// A cell of a storey of a mesh.
 #[derive(Clone, Copy, PartialEq, Eq)]
@@ -39,7 +39,7 @@ pub(crate) fn spot_at(mesh: &Mesh, areas: u64, number: u128) -> Option<StoreyCel
 {
     let mut left = number;
     for tile in 0..mesh.tiles.len() {
-        let storeys = mesh.tiles.at(tile).get().storeys.list();
+        let storeys = &mesh.tiles.at(tile).get().storeys;
         let count = count_in_tile(storeys, areas);
         if left < count {
             return spot_in_tile(storeys, areas, tile as u32, left);
@@ -50,15 +50,15 @@ pub(crate) fn spot_at(mesh: &Mesh, areas: u64, number: u128) -> Option<StoreyCel
 }
 
 /// The spot with a number, from 0, of those of a tile; none where there are fewer.
-fn spot_in_tile(storeys: &[Storey], areas: u64, tile: u32, number: u128) -> Option<StoreyCell>
-    requires { AreStoreys storeys.now }
-    ensures value { result ≡ slice_get (tile_spots areas tile storeys.now) number }
+fn spot_in_tile(storeys: &Storeys, areas: u64, tile: u32, number: u128) -> Option<StoreyCell>
+    ensures value { result ≡ slice_get (tile_spots areas tile storeys.now.list) number }
     ensures inside { IfSome result IsInField }
 {
+    let list = storeys.list();
     let mut left = number;
-    for storey in 0..storeys.len() {
-        let here = &storeys[storey];
-        let count = u128::from(count_open(here, areas));
+    for storey in 0..list.len() {
+        let here = &list[storey];
+        let count = u128::from(count_open(here, storeys.reach(storey), areas));
         if left < count {
             return spot_in_storey(here, Home { tile, storey }, left as usize);
         }

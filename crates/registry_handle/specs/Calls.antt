@@ -6,12 +6,16 @@ use Rattle.nav_handle.specs.Statuses as status
 use Rattle.obstacle_registry.specs.Changes.{after_add, after_enable, after_mark, after_move, after_remove, why_not_added, why_not_enabled, why_not_marked, why_not_taken}
 use Rattle.obstacle_registry.specs.Registry.{RegistryState, row_of}
 use Rattle.obstacle_registry.specs.declared.row.Refused.{Refused}
-use Rattle.obstacle_registry.specs.declared.row.Refused.TheVariants.{NoObstacle, Same, TooMany, HistoryFull, NoMemory}
+use Rattle.obstacle_registry.specs.declared.row.Refused.TheVariants.{NoObstacle, Same, TooMany, HistoryFull, NoMemory, NotSaved, Foreign}
 use Rattle.obstacle_registry.specs.declared.row.Registered.{Registered}
 
 -- no obstacle has the id; include/navd.h has the same
 abbrev pub no_obstacle : ℕ
 no_obstacle = 24
+
+-- the bytes are those of no saved registry; include/navd.h has the same
+abbrev pub not_saved : ℕ
+not_saved = 25
 
 -- the status with which a call that is refused ends
 abbrev pub refusal_status : Refused → ℕ
@@ -20,6 +24,8 @@ refusal_status Same = status.same
 refusal_status TooMany = status.too_many
 refusal_status HistoryFull = status.history_full
 refusal_status NoMemory = status.no_memory
+refusal_status NotSaved = not_saved
+refusal_status Foreign = status.foreign
 
 -- a call of a registry ended: it was done where nothing is against it; else it is refused for that, and nothing has changed
 abbrev pub IsEnded : Option Refused → RegistryState → RegistryState → Option RegistryState → ℕ → Type 0

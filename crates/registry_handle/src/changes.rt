@@ -12,12 +12,15 @@ ghost use Rattle.registry_handle.specs.Solids.{IsSolid};
 use crate::handle::NavdRegistry;
 use crate::solids::{NavdSolid, solid_shape};
 use nav_ground::Shape;
-use nav_handle::{EMPTY, HISTORY_FULL, NO_MEMORY, OK, OUT_OF_RANGE, SAME, TOO_MANY};
+use nav_handle::{EMPTY, FOREIGN, HISTORY_FULL, NO_MEMORY, OK, OUT_OF_RANGE, SAME, TOO_MANY};
 use obstacle_registry::{Refused, Registry};
 use std::alloc::Global;
 
 /// No obstacle has the id.
 pub const NO_OBSTACLE: u32 = 24;
+
+/// The bytes are those of no saved registry.
+pub const NOT_SAVED: u32 = 25;
 
 /// The status with which a call that is refused ends.
 pub(crate) fn refusal_status(why: Refused) -> u32
@@ -29,6 +32,8 @@ pub(crate) fn refusal_status(why: Refused) -> u32
         Refused::TooMany => TOO_MANY,
         Refused::HistoryFull => HISTORY_FULL,
         Refused::NoMemory => NO_MEMORY,
+        Refused::NotSaved => NOT_SAVED,
+        Refused::Foreign => FOREIGN,
     }
 }
 

@@ -13,7 +13,7 @@ use Rattle.nav_base.proofs.LengthLaws.{ceil_sqrt_of-from_to, dot_of-itself}
 use Rattle.nav_base.proofs.Sizes.{dot_of-bound, from_to-coordinates}
 use Rattle.nav_base.proofs.RootLaws.{ceil_sqrt_of-least, ceil_sqrt_of-at_most}
 use Rattle.mesh_types.specs.declared.links.Portal.{Portal}
-use Rattle.shortest_line.specs.Lines.{spread, Reaches, IsLine}
+use Rattle.line_fans.specs.Lines.{spread, Reaches, IsLine}
 
 root-at_most : (m n : ℕ) → m * m ≤ n * n → m ≤ n
 root-at_most m n h = elim (cases_lt n m) [ inl above ↦ absurd (omega (arith, mul-le (n + 1) (n + 1) m m (omega arith) (omega arith))) | inr below ↦ below ]

@@ -7,3 +7,4 @@ pub mod FieldLaws
 pub mod FrontLaws
 pub mod NextLineLaws
 mod OnePassLaws
+mod LineLaws

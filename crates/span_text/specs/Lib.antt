@@ -5,3 +5,4 @@ pub mod Body
 pub mod NextLine
 pub mod FieldFormat
 pub mod Outcome
+pub mod LineFront

@@ -1,19 +1,16 @@
-//! The lines behind the header: costs, spans and the end. The line of a span, read in one pass over its bytes. The line of a span, as it is
-//! written.
+//! The lines behind the header: costs, spans and the end. The line of a span, read in one pass over its bytes.
 
 ghost use Rattle.std.specs.Prelude.{◌≡◌, ℕ, ◌≤◌, [], Some, MatchOption, IfSome, codes, length, ◌*◌, ◌+◌, ◌-◌, ◌<◌, ◌++◌, ◌∷◌, decimal, IsOk, OnOk, OnErr, vec_len, vec_capacity};
 ghost use Rattle.span_text.specs.Body.{cost_in, span_of, is_span, is_column_before, is_column_of, span_after, span_in, other_line, body_line, header_line, Fits};
 ghost use Rattle.span_text.specs.NextLine.{SaysFirst, span_or_many, IsHeld};
 ghost use Rattle.nav_text.specs.Forms.{numbers_of};
-ghost use Rattle.nav_text.specs.Lines.{lines, ended};
+ghost use Rattle.nav_text.specs.Lines.{lines};
 ghost use Rattle.std.specs.Option.{option_copied};
 ghost use Rattle.span_text.specs.FieldText.{span_text};
-ghost use Rattle.nav_text.specs.Appends.{Appends};
 
 use crate::front::is_in;
 use nav_ground::{PackedSpan, Span};
-use nav_text::{FaultKind, append_line, first_line, has_word, numbers_of};
-use std::alloc::AllocError;
+use nav_text::{FaultKind, first_line, has_word, numbers_of};
 
 /// The most spans that a field can have.
 pub const MAX_SPANS: usize = 2000000;
@@ -257,31 +254,4 @@ fn with_digit(number: u32, bytes: &[u8]) -> Option<(u32, &[u8])>
         return None;
     }
     Some((10 * number + u32::from(first - b'0'), &bytes[1..]))
-}
-
-/// Appends the line of a span, or nothing where memory is refused.
-pub fn write_span(out: &mut Vec<u8>, span: &Span) -> Result<(), AllocError>
-    ensures ok { OnOk result (out.new.items ≡ out.old.items ++ ended (span_text span.now)) }
-    ensures err { OnErr result (out.new.items ≡ out.old.items) }
-    ensures room { vec_len out.old + length (ended (span_text span.now)) ≤ vec_capacity out.old → IsOk result }
-    ensures capacity { vec_capacity out.old ≤ vec_capacity out.new }
-{
-    let len = out.len();
-    let written = append_span(out, span);
-    if written.is_err() {
-        out.truncate(len);
-    }
-    written
-}
-
-/// The same, but where memory is refused a part may stand at the end.
-fn append_span(out: &mut Vec<u8>, span: &Span) -> Result<(), AllocError>
-    ensures { Appends out.old out.new result (ended (span_text span.now)) }
-{
-    append_line(
-        out,
-        b"span",
-        &[span.x, span.z, span.bottom, span.top, span.area],
-    )?;
-    out.extend_from_slice(b"\n")
 }

@@ -5,7 +5,8 @@
 mod body;
 mod field;
 mod front;
+mod lines;
 
-pub use body::write_span;
 pub use field::{FieldRefusal, FieldText, read_field};
 pub use front::{HeaderText, read_header};
+pub use lines::{write_span, write_spans};

@@ -22,7 +22,7 @@ pub fn storeys(alloc: Global, strips: &TileStrips) -> Result<Storeys, AllocError
 {
     let homes = homes(alloc, strips.count())?;
     let list = storey_list(alloc, strips)?;
-    Ok(Storeys::new(homes, list))
+    Storeys::new(alloc, homes, list)
 }
 
 /// For each polygon the place of its storey, where each polygon has one of its own.

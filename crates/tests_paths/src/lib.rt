@@ -1,5 +1,5 @@
 //! Tests of what is asked of a mesh: taut paths, the polygon of a place, corridors, straight moves, walkers and whole answers; of books over
-//! small grounds, and that handles may go to other threads.
+//! small grounds, of registries that are saved and restored, and that handles may go to other threads.
 //!
 //! The tests use public calls alone, and compare them with tables that were worked out by hand. They stand apart from what they test,
 //! so that no crate is proved a second time with its tests.
@@ -27,6 +27,8 @@ mod parts;
 mod places;
 #[cfg(test)]
 mod questions;
+#[cfg(test)]
+mod registries;
 #[cfg(test)]
 mod renewals;
 #[cfg(test)]

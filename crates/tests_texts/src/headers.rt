@@ -2,8 +2,8 @@
 
 use crate::fields::{second_form, text_with};
 use crate::texts::check;
-use nav_ground::Span;
-use span_text::{FieldRefusal, read_header, write_span};
+use nav_ground::{PackedSpan, Span};
+use span_text::{FieldRefusal, read_header, write_span, write_spans};
 use std::alloc::Global;
 use std::process::Abort;
 
@@ -83,4 +83,35 @@ fn writes_a_span(rt: HostRuntime) {
         written && out.as_slice() == b"span 1023 0 7 8191 63\n".as_slice(),
         "span",
     );
+}
+
+#[test]
+fn writes_spans(rt: HostRuntime) {
+    let spans = [
+        PackedSpan::new(&Span {
+            x: 0,
+            z: 0,
+            bottom: 0,
+            top: 9,
+            area: 0,
+        }),
+        PackedSpan::new(&Span {
+            x: 0,
+            z: 0,
+            bottom: 10,
+            top: 99,
+            area: 9,
+        }),
+        PackedSpan::new(&Span {
+            x: 1000,
+            z: 100,
+            bottom: 999,
+            top: 1000,
+            area: 63,
+        }),
+    ];
+    let mut out = Vec::new(rt.alloc());
+    let written = write_spans(&mut out, &spans).is_ok();
+    let wanted = b"span 0 0 0 9 0\nspan 0 0 10 99 9\nspan 1000 100 999 1000 63\n";
+    check(&rt, written && out.as_slice() == wanted.as_slice(), "spans");
 }

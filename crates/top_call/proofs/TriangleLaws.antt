@@ -1,7 +1,7 @@
 -- The answer to a triangle text, and that the text of its field is a field text.
 use Rattle.std.proofs.Common.{◌≡◌, ℕ, ◌+◌, ◌<◌, ◌≤◌, List, get_or, [], ◌∷◌, ◌++◌, length, map, take, ap, subst, sym, ◌∙◌, refl, arith}
 use Rattle.std.specs.Prelude.{codes, Result, Ok, Err}
-use Rattle.std.proofs.lemmas.List.{take_at, take_all, append_assoc, length-append, flat_map_more, map_more}
+use Rattle.std.proofs.lemmas.List.{take_at, append_assoc, length-append, flat_map_more}
 use Rattle.nav_ground.specs.declared.setting.Setting.{Setting}
 use Rattle.nav_ground.specs.declared.field.Span.{Span}
 use Rattle.nav_ground.specs.declared.field.Field.{Field}
@@ -34,26 +34,9 @@ pub header_within : (bytes : List ℕ) (setting : Setting) (header : ℕ) (tris 
 header_within bytes setting header tris there =
     omega (arith, there.used, ap (λ (xs : List ℕ). length xs) there.begins.parts, length-append there.front there.back)
 
--- the lines of spans, one after the other
-
-abbrev pub no_span : Span
-no_span = record { x = 0; z = 0; bottom = 0; top = 0; area = 0 }
-
-pub spans_more : (header : List ℕ) (spans : List Span) (i : ℕ) (text new : List ℕ) → i < length spans
-    → text ≡ header ++ text_of (map span_text (take i spans)) → new ≡ text ++ ended (span_text (get_or spans i no_span))
-    → new ≡ header ++ text_of (map span_text (take (i + 1) spans))
-spans_more header spans i text new less so_far is =
-    is
-    ∙ ap (λ (xs : List ℕ). xs ++ ended (span_text (get_or spans i no_span))) so_far
-    ∙ flat_map_more ended header (map span_text (take i spans)) (span_text (get_or spans i no_span))
-    ∙ ap (λ (those : List (List ℕ)). header ++ text_of those) (sym (map_more span_text spans i no_span less))
-
-pub spans_all : (header : List ℕ) (spans : List Span) (i : ℕ) (text new : List ℕ) → length spans ≤ i
-    → text ≡ header ++ text_of (map span_text (take i spans)) → new ≡ text ++ ended (codes "end") → new ≡ field_text header spans
-spans_all header spans i text new end so_far is =
-    is
-    ∙ ap (λ (xs : List ℕ). xs ++ ended (codes "end")) (so_far ∙ ap (λ (some : List Span). header ++ text_of (map span_text some)) (take_all i spans end))
-    ∙ flat_map_more ended header (map span_text spans) (codes "end")
+-- a header, the lines of spans and `end` are the text of a field
+pub spans_all : (header : List ℕ) (spans : List Span) (text new : List ℕ) → text ≡ header ++ text_of (map span_text spans) → new ≡ text ++ ended (codes "end") → new ≡ field_text header spans
+spans_all header spans text new so_far is = is ∙ ap (λ (xs : List ℕ). xs ++ ended (codes "end")) so_far ∙ flat_map_more ended header (map span_text spans) (codes "end")
 
 -- the text of the field of triangles is a field text of their setting and that field
 

@@ -22,7 +22,7 @@ use nav_play::{PlayText, play};
 use nav_record::write_fault;
 use nav_script::{Script, ScriptRefusal, Way, read_script};
 use nav_text::TextFault;
-use span_text::{FieldRefusal, read_field, write_span};
+use span_text::{FieldRefusal, read_field, write_spans};
 use std::alloc::{AllocError, Global};
 use std::sync::Wait;
 use std::sync::ledger::Ledger;
@@ -225,9 +225,7 @@ fn spelled(alloc: Global, header: &[u8], spans: &[PackedSpan]) -> Result<Vec<u8>
 {
     let mut text = Vec::with_capacity(alloc, header.len() + SPAN_LINE * spans.len() + 4)?;
     text.extend_from_slice(header)?;
-    for span in spans {
-        write_span(&mut text, &span.get())?;
-    }
+    write_spans(&mut text, spans)?;
     text.extend_from_slice(b"end\n")?;
     Ok(text)
 }

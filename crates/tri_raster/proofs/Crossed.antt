@@ -1,5 +1,5 @@
 -- Heights of crossings, put into the bounds of the columns beside their lines.
-use Rattle.std.proofs.Common.{◌≡◌, ℕ, ◌+◌, ◌-◌, ◌*◌, ◌/◌, ◌≤◌, ◌<◌, ◌⊎◌, inl, inr, arith, sym, subst, List, length, min}
+use Rattle.std.proofs.Common.{◌≡◌, ℕ, ◌+◌, ◌-◌, ◌*◌, ◌/◌, ◌≤◌, ◌<◌, ◌⊎◌, inl, inr, arith, sym, ◌∙◌, ap, refl, subst, List, length, min, max}
 use Rattle.std.proofs.lemmas.Bool.{cases_lt}
 use Rattle.tri_raster.specs.declared.triangle.Tri.{Tri}
 use Rattle.tri_raster.specs.declared.triangle.Spot.{Spot}
@@ -12,12 +12,18 @@ use Rattle.tri_raster.proofs.Heights.{crossing_some, crossing_low}
 use Rattle.tri_raster.proofs.Noted.{by_spot, spot_height}
 use Rattle.tri_raster.proofs.Places.{column_right, right_of_column, left_of_end, end_least, column_least, end_most}
 use Rattle.tri_raster.proofs.Points.{line_spot}
-use Rattle.tri_raster.proofs.Puts.{IsHeightOver, put_wider, put_filled, put_about, wider_then, about_later}
+use Rattle.tri_raster.proofs.Puts.{IsHeightOver, put_wider, put_filled, put_about, put_twice, no_wider, wider_then, about_later}
 
 -- the bounds beside the lines before a line lie about the crossings there
 abbrev pub AreAboutLines : Spot → Spot → ℕ → List Bound → Type 0
 AreAboutLines left right end bounds = (k x : ℕ) → left.x < 16 * k * left.n → 16 * k * right.n < right.x → k < end → (k ≡ x) ⊎ (k ≡ x + 1) → x < length bounds
     → IsAbout (line_crossing left right k) (bound_at bounds x)
+
+-- bounds were widened by the heights at the lines before a line
+pub record AreWidenedUpTo (left right : Mark) (line : ℕ) (old new : List Bound) : Type 0 where
+  pub wider : IsWider old new
+  pub filled : (tri : Tri) (z : ℕ) → IsSpotOf tri z left.spot → IsSpotOf tri z right.spot → StaysFilled tri z old new
+  pub about : AreAboutLines left.spot right.spot line new
 
 module _ (left right : Mark) (is : IsMark left) (is' : IsMark right) where
   -- the lines between two spots are those from behind the column of the one to before the end of the other
@@ -87,3 +93,40 @@ module _ (left right : Mark) (is : IsMark left) (is' : IsMark right) where
             | inr next ↦ about_later (line_crossing left.spot right.spot line) x once both second (subst (λ (bs : List Bound). IsAbout (line_crossing left.spot right.spot line) (bound_at bs x)) (sym e) (put_about (line_crossing left.spot right.spot line) bounds (line - 1) low high x (omega arith) (omega (arith, inside, line_wider.same)) under above))
           ])
     ]
+
+  -- ---- each height into the column left of its line together with that of the line before
+
+  one_more : (line : ℕ) → left.column < line → line < right.end → (low high : ℕ) → IsHeight left.spot right.spot line low high → (old bounds : List Bound) → AreWidenedUpTo left right line old bounds
+      → AreWidenedUpTo left right (line + 1) old (put_at (put_at bounds (line - 1) low high) line low high)
+  one_more line before behind low high height old bounds so_far = record {
+    wider = wider_then old bounds _ so_far.wider (line_wider line (lies_right line before) (lies_left line behind) low high height bounds _ _ refl refl);
+    filled = λ tri z p q x there. line_filled line (lies_right line before) (lies_left line behind) low high height bounds _ _ refl refl (omega (arith, before)) tri z p q x (so_far.filled tri z p q x there);
+    about = one_line line (lies_right line before) (lies_left line behind) low high height bounds _ _ refl refl so_far.about;
+  }
+
+  -- where the next line is the one behind
+  behind_it : (line low high : ℕ) (old once : List Bound) → AreWidenedUpTo left right (line + 1) old (put_at once line low high) → AreWidenedUpTo left right (line + 1) old (put_at once (line + 1 - 1) low high)
+  behind_it line low high old once =
+      let same : line ≡ line + 1 - 1 = omega arith in
+      subst (λ (k : ℕ). AreWidenedUpTo left right (line + 1) old (put_at once k low high)) same
+
+  pub none_widened : (line : ℕ) (bounds : List Bound) → line ≡ left.column + 1 → AreWidenedUpTo left right line bounds bounds
+  none_widened line bounds e = record { wider = no_wider bounds; filled = λ tri z p q x there. there; about = none_yet line bounds e }
+
+  pub first_widened : (line low high : ℕ) (old once : List Bound) → line ≡ left.column + 1 → line < right.end → IsHeight left.spot right.spot line low high → once ≡ put_at old (line - 1) low high
+      → AreWidenedUpTo left right (line + 1) old (put_at once (line + 1 - 1) low high)
+  first_widened line low high old once e behind height is_once = behind_it line low high old once
+      (subst (λ (bs : List Bound). AreWidenedUpTo left right (line + 1) old (put_at bs line low high)) (sym is_once) (one_more line (omega (arith, e)) behind low high height old old (none_widened line old e)))
+
+  pub next_widened : (line low high next_low next_high least most : ℕ) (old bounds once : List Bound) → left.column < line → line < right.end → IsHeight left.spot right.spot line next_low next_high
+      → AreWidenedUpTo left right line old (put_at bounds (line - 1) low high) → least ≡ min low next_low → most ≡ max high next_high → once ≡ put_at bounds (line - 1) least most
+      → AreWidenedUpTo left right (line + 1) old (put_at once (line + 1 - 1) next_low next_high)
+  next_widened line low high next_low next_high least most old bounds once before behind height so_far e f is_once = behind_it line next_low next_high old once
+      (subst (λ (bs : List Bound). AreWidenedUpTo left right (line + 1) old (put_at bs line next_low next_high)) same (one_more line before behind next_low next_high height old (put_at bounds (line - 1) low high) so_far))
+    where
+      same : put_at (put_at bounds (line - 1) low high) (line - 1) next_low next_high ≡ once
+      same = put_twice bounds (line - 1) low high next_low next_high ∙ sym (is_once ∙ ap (λ (n : ℕ). put_at bounds (line - 1) n most) e ∙ ap (λ (n : ℕ). put_at bounds (line - 1) (min low next_low) n) f)
+
+  pub last_widened : (line end low high : ℕ) (old bounds new : List Bound) → line ≡ end → AreWidenedUpTo left right line old (put_at bounds (line - 1) low high) → new ≡ put_at bounds (end - 1) low high
+      → AreWidenedUpTo left right line old new
+  last_widened line end low high old bounds new e so_far is_new = subst (AreWidenedUpTo left right line old) (ap (λ (n : ℕ). put_at bounds (n - 1) low high) e ∙ sym is_new) so_far

@@ -2,7 +2,7 @@
 use Rattle.std.proofs.Common.{◌≡◌, ℕ, zero, suc, ◌+◌, ◌*◌, ◌≤◌, ◌<◌, min, max, inl, inr, ◌≢◌, List, [], ◌∷◌, length, refl, sym, ◌∙◌, ap, subst, arith}
 use Rattle.std.specs.Prelude.{slice_set}
 use Rattle.std.proofs.lemmas.Bool.{cases_lt, cases_eq}
-use Rattle.std.proofs.lemmas.List.{length-set, get_or-set_same, get_or-set_other, get_or_past}
+use Rattle.std.proofs.lemmas.List.{length-set, get_or-set_same, get_or-set_other, get_or_past, set-set}
 use Rattle.tri_raster.specs.declared.triangle.Tri.{Tri}
 use Rattle.tri_raster.specs.declared.triangle.Spot.{Spot}
 use Rattle.tri_raster.specs.declared.triangle.Bound.{Bound}
@@ -113,6 +113,26 @@ put_filled tri z bounds x low high over y before = by_place (λ (b : Bound). IsF
 pub put_about : (spot : Spot) (bounds : List Bound) (x low high y : ℕ) → y ≡ x → y < length bounds → low * spot.n ≤ spot.y → spot.y ≤ high * spot.n → IsAbout spot (bound_at (put_at bounds x low high) y)
 put_about spot bounds x low high y e inside under over =
     subst (λ (k : ℕ). IsAbout spot (bound_at (put_at bounds k low high) y)) e (subst (IsAbout spot) (sym (put-same bounds y low high inside)) (widened_about spot (bound_at bounds y) low high under over))
+
+abbrev bound_of : ℕ → ℕ → Bound
+bound_of low high = record { low = low; high = high }
+
+-- two heights put into one column are the lower and the higher of both put once
+pub put_twice : (bounds : List Bound) (x low high low' high' : ℕ) → put_at (put_at bounds x low high) x low' high' ≡ put_at bounds x (min low low') (max high high')
+put_twice bounds x low high low' high' = elim (cases_lt x (length bounds)) [
+  | inl inside ↦
+      ap (λ (b : Bound). slice_set (put_at bounds x low high) x (widened b low' high')) (put-same bounds x low high inside)
+      ∙ set-set bounds x (widened (bound_at bounds x) low high) (widened (widened (bound_at bounds x) low high) low' high')
+      ∙ ap (λ (b : Bound). slice_set bounds x b) (least (min (min (bound_at bounds x).low low) low') (max (max (bound_at bounds x).high high) high') (omega arith) (omega arith))
+  | inr beyond ↦
+      ap (λ (bs : List Bound). put_at bs x low' high') (set_beyond bounds x (widened (bound_at bounds x) low high) beyond)
+      ∙ set_beyond bounds x (widened (bound_at bounds x) low' high') beyond
+      ∙ sym (set_beyond bounds x (widened (bound_at bounds x) (min low low') (max high high')) beyond)
+]
+  where
+    least : (l h : ℕ) → l ≡ min (bound_at bounds x).low (min low low') → h ≡ max (bound_at bounds x).high (max high high')
+        → bound_of l h ≡ widened (bound_at bounds x) (min low low') (max high high')
+    least l h e f = ap (λ (n : ℕ). bound_of n h) e ∙ ap (λ (n : ℕ). bound_of (min (bound_at bounds x).low (min low low')) n) f
 
 -- ---- one after another
 

@@ -55,12 +55,21 @@ fn put_crossings(bounds: &mut [Bound], left: &Mark, right: &Mark)
     ensures filled { (tri : Tri) (z : ℕ) → IsSpotOf tri z left.now.spot → IsSpotOf tri z right.now.spot → StaysFilled tri z bounds.old bounds.new }
     ensures about { AreAboutCrossings left.now.spot right.now.spot bounds.new }
 {
+    let first = left.column + 1;
     let end = right.end.min(bounds.len() as u32 + 1);
-    for line in left.column + 1..end {
-        let (low, high) = heights(left.spot, right.spot, line);
-        put(bounds, line - 1, low, high);
-        put(bounds, line, low, high);
+    if end <= first {
+        return;
     }
+    let (mut low, mut high) = heights(left.spot, right.spot, first);
+    put(bounds, first - 1, low, high);
+    // Each column between two lines takes the heights of both at once.
+    for line in first + 1..end {
+        let (next_low, next_high) = heights(left.spot, right.spot, line);
+        put(bounds, line - 1, low.min(next_low), high.max(next_high));
+        low = next_low;
+        high = next_high;
+    }
+    put(bounds, end - 1, low, high);
 }
 
 /// The height, down and up to whole numbers, where the segment between two spots crosses the line left of column `line`.

@@ -110,6 +110,7 @@ fn push_corner(marks: &mut [Mark], count: usize, corner: Corner3, z: u32) -> usi
 }
 
 /// Puts the spot where an edge crosses a line, if its ends lie on both sides of it, behind the first `count` marks. Answers how many there are then.
+#[inline(always)]
 fn push_edge(marks: &mut [Mark], count: usize, a: Corner3, b: Corner3, line: u32) -> usize
     requires room { count < length marks.old }
     requires first { IsCorner a }

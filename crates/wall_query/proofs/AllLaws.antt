@@ -13,7 +13,7 @@ use Rattle.wall_query.specs.declared.questions.WallQuery.{WallQuery}
 use Rattle.wall_query.specs.declared.questions.WallsQuery.{WallsQuery}
 use Rattle.wall_query.specs.AllWalls.{AreWallsAround}
 use Rattle.wall_query.specs.Around.{IsAround, IsListed}
-use Rattle.wall_query.specs.Walls.{ArePolygonsInOrder, AreWallsOf, IsInReach, IsWallAround, IsWallWithin}
+use Rattle.wall_query.specs.Walls.{ArePolygonsInOrder, AreWallsOf, IsInReach, IsWallWithin}
 use Rattle.nav_base.specs.declared.deviation.Deviation.{Deviation}
 use Rattle.nav_base.specs.Deviation.{IsFraction}
 use Rattle.wall_query.proofs.BestLaws.{no_farther_on}

@@ -19,7 +19,7 @@ use Rattle.wall_query.specs.declared.questions.Wall.{Wall}
 use Rattle.wall_query.specs.declared.questions.WallQuery.{WallQuery}
 use Rattle.wall_query.specs.Around.{IsAround, IsListed, PassesNear}
 use Rattle.wall_query.specs.Walls.{HasWallsOf, IsBestOf, IsNearerThan, IsNearestReached, IsNearestWithin, IsReached, IsWallAround, IsWallWithin}
-use Rattle.wall_query.proofs.Listed.{contains_none}
+use Rattle.wall_slide.proofs.Listed.{contains_none}
 
 -- ---- the order of distances
 

@@ -15,7 +15,7 @@ use Rattle.wall_slide.specs.Gathers.{IsLeading, inner_links, outer_links}
 use Rattle.wall_query.specs.declared.parts.PolygonEdge.{PolygonEdge}
 use Rattle.wall_query.specs.Parts.{IsBeyond, IsFirst, IsFirstAmong, IsFirstPortal, IsSooner, LeadsOver, far_on}
 use Rattle.wall_query.proofs.FieldPoints.{portal_field}
-use Rattle.wall_query.proofs.LeavingLinks.{leaving, leaving_listed}
+use Rattle.wall_slide.proofs.LeavingLinks.{leaving, leaving_listed}
 
 at_most : (a b c : ℤ) → a ≤ℤ b → b ≤ℤ c → a ≤ℤ c
 at_most a b c h k = omega (arith, ints)

@@ -1,7 +1,4 @@
-mod Listed
-mod Lefts
-mod LeavingLinks
-mod GatherLaws
+mod ListedThere
 mod FieldPoints
 mod ListLaws
 mod FirstLaws

@@ -1,11 +1,17 @@
 -- What is appended to a list: nothing, one, and one after the other.
-use Rattle.std.proofs.Common.{◌≡◌, ℕ, ◌-◌, ◌<◌, ◌≤◌, ◌⊎◌, inl, inr, List, [], ◌∷◌, ◌++◌, length, get_or, sym, ap, subst, ◌∙◌, arith}
-use Rattle.std.specs.Prelude.{Contains}
+use Rattle.std.proofs.Common.{◌≡◌, ℕ, ◌-◌, ◌<◌, ◌≤◌, ◌⊎◌, inl, inr, List, [], ◌∷◌, ◌++◌, length, take, get_or, sym, ap, subst, ◌∙◌, arith}
+use Rattle.std.specs.Prelude.{Contains, min}
 use Rattle.std.proofs.lemmas.Bool.{cases_lt}
-use Rattle.std.proofs.lemmas.List.{append-nil, append_assoc, get_or_append_left, get_or-append_right, length-append}
+use Rattle.std.proofs.lemmas.List.{append-nil, append_assoc, get_or_append_left, get_or-append_right, get_or-take, length-append, length-take}
 use Rattle.std.proofs.lemmas.List.Elements.{Contains-append_cases, Contains-append_left, Contains-append_right, Contains-get_or, Contains-push, Contains-push_cases}
 use Rattle.wall_query.specs.Lists.{Adds}
-use Rattle.wall_query.proofs.Listed.{contains_none}
+use Rattle.wall_slide.proofs.Listed.{contains_none}
+
+-- an element of the first ones of a list is one of the list
+pub taken_element : {X : Type 0} (n : ℕ) (xs : List X) (x : X) → Contains (take n xs) x → Contains xs x
+taken_element n xs x held =
+    let low : held.0 < min n (length xs) = omega (arith, held.1, length-take n xs) in
+    (held.0, omega (arith, low), sym (get_or-take n xs held.0 x (omega (arith, low))) ∙ held.2)
 
 module _ {X : Type 0} (before : X → X → Type 0) where
   -- nothing, where none has the property

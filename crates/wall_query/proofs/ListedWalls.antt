@@ -19,7 +19,7 @@ use Rattle.wall_query.specs.declared.questions.Wall.{Wall}
 use Rattle.wall_query.specs.Lists.{Adds, IsInOrder}
 use Rattle.wall_query.specs.Walls.{AddsWalls, ArePolygonsInOrder, AreWallsOf, ComesBefore, HasWallsOf, IsFirstAt, IsWallAround}
 use Rattle.wall_query.proofs.ListLaws.{adds_both}
-use Rattle.wall_query.proofs.Listed.{contains_none}
+use Rattle.wall_slide.proofs.Listed.{contains_none}
 
 -- of polygons in order none that comes earlier comes later
 abbrev IsNotLater : PolyRef → PolyRef → Type 0

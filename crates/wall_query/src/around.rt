@@ -4,9 +4,8 @@ ghost use Rattle.std.specs.Prelude.{◌≡◌, ◌↔◌, ◌<◌, All, Contains
 ghost use Rattle.nav_base.specs.Point.{IsInField};
 ghost use Rattle.mesh_types.specs.Soundness.{IsSound};
 ghost use Rattle.path_queries.specs.Filters.{Enters};
-ghost use Rattle.wall_slide.specs.Gathers.{IsLeading};
+ghost use Rattle.wall_slide.specs.Gathers.{IsGathered, IsLeading, IsMissed};
 ghost use Rattle.wall_query.specs.Around.{IsListed, IsNear, IsPassed, StandsIn};
-ghost use Rattle.wall_query.specs.Gathers.{IsGathered, IsMissed};
 
 use crate::distances::{distance_to, is_no_farther};
 use mesh_types::{Link, Mesh, MeshPlace, PolyRef, poly};
@@ -54,7 +53,7 @@ fn push_passed(
     requires sound { IsSound mesh.now }
     requires start { StandsIn mesh.now around.now }
     requires links { All (IsLeading mesh.now) links.now }
-    ensures { OnOk result (IsGathered mesh.now around.now links.now list.old.items list.new.items) }
+    ensures { OnOk result (IsGathered (IsPassed mesh.now around.now) links.now list.old.items list.new.items) }
 {
     for link in links {
         if is_missed(mesh, around, list.as_slice(), link) {
@@ -69,7 +68,7 @@ fn is_missed(mesh: &Mesh, around: &Around, list: &[PolyRef], link: &Link) -> boo
     requires sound { IsSound mesh.now }
     requires start { StandsIn mesh.now around.now }
     requires link { IsLeading mesh.now link.now }
-    ensures { IsTrue result ↔ IsMissed mesh.now around.now list.now link.now }
+    ensures { IsTrue result ↔ IsMissed (IsPassed mesh.now around.now) list.now link.now }
 {
     !has(list, link.to) && is_passed(mesh, around, link)
 }

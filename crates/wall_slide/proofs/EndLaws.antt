@@ -66,13 +66,17 @@ module _ (mesh : Mesh) (asked : Slide) (sound : IsSound mesh) (starts : StartsIn
   pub start_is : IsEnd mesh asked (record { polygon = asked.from.polygon; point = asked.from.point })
   start_is = record { looks = ([], refl); held = starts.held; within = omega (arith, no_way asked.from.point) }
 
-  -- and at its target, where the start's polygon holds that: no end is nearer
+  -- and at its target, where a polygon holds that which it looks at: no end is nearer
+  pub target_in : (at : PolyRef) → LooksAt mesh asked at → IsHeldAt mesh asked.to at
+      → IsNearestEnd mesh asked (LooksAt mesh asked) (record { polygon = at; point = asked.to })
+  target_in at looks held = record {
+    is = record { looks = looks; held = held; within = omega arith };
+    nearest = λ at' looks' q held' within. omega (arith, no_way asked.to);
+  }
+
   pub target_is : (polygon : Polygon) → poly_at mesh asked.from.polygon ≡ Some polygon → Holds polygon asked.to
       → IsNearestEnd mesh asked (LooksAt mesh asked) (record { polygon = asked.from.polygon; point = asked.to })
-  target_is polygon there holds = record {
-    is = record { looks = ([], refl); held = record { polygon = polygon; there = there; holds = holds }; within = omega arith };
-    nearest = λ at looks q held within. omega (arith, no_way asked.to);
-  }
+  target_is polygon there holds = target_in asked.from.polygon ([], refl) (record { polygon = polygon; there = there; holds = holds })
 
   -- ---- polygon after polygon
 

@@ -1,10 +1,11 @@
 mod DiscLaws
 mod EndLaws
+mod FacingLaws
 mod FootLaws
-mod GatherLaws
-mod LeavingLinks
-mod Lefts
+pub mod GatherLaws
+pub mod LeavingLinks
+pub mod Lefts
 mod LineParts
-mod Listed
+pub mod Listed
 mod Readings
 mod RowLaws

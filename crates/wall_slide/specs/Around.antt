@@ -13,6 +13,10 @@ abbrev pub WalksBy : (Link → Type 0) → Mesh → PolyRef → List Link → Po
 WalksBy passes mesh from [] to = from ≡ to
 WalksBy passes mesh from (link ∷ links) to = IsLinkOf mesh link × passes link × (link.from ≡ from) × WalksBy passes mesh link.to links to
 
+-- a polygon to which links of a kind lead from another
+abbrev pub IsReached : (Link → Type 0) → Mesh → PolyRef → PolyRef → Type 0
+IsReached passes mesh from at = (links : List Link) × WalksBy passes mesh from links at
+
 -- a link is open where it enters a polygon of an open area
 pub record IsOpen (mesh : Mesh) (areas : ℕ) (link : Link) : Type 0 where
   pub polygon : Polygon

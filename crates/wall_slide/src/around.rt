@@ -5,30 +5,61 @@ ghost use Rattle.mesh_types.specs.declared.links.PolyRef.{PolyRef};
 ghost use Rattle.mesh_types.specs.Soundness.{IsSound};
 ghost use Rattle.mesh_place.specs.Nearest.{is_open};
 ghost use Rattle.wall_slide.specs.Around.{IsOpen};
-ghost use Rattle.wall_slide.specs.Slides.{IsPassed, LooksAt, StartsIn};
-ghost use Rattle.wall_slide.specs.Gathers.{IsGathered, IsLeading, IsMissed, inner_links, outer_links};
+ghost use Rattle.mesh_types.specs.Rays.{IsHeldAt};
+ghost use Rattle.wall_slide.specs.Slides.{IsPassed, StartsIn};
+ghost use Rattle.wall_slide.specs.Gathers.{IsGathered, IsGatheredFor, IsLeading, IsMissed, inner_links, outer_links};
 
 use crate::discs::{Motion, touches};
 use crate::questions::Slide;
-use mesh_types::{Link, Mesh, PolyRef, poly};
+use mesh_types::{Link, Mesh, PolyRef, holds, poly};
 use std::alloc::{AllocError, Global};
 
-/// The polygons that a slide looks at, the start's first, each once.
-pub(crate) fn gather(alloc: Global, mesh: &Mesh, asked: &Slide) -> Result<Vec<PolyRef>, AllocError>
+/// For how many polygons there is room at first. Most slides look at fewer.
+const ROOM: usize = 16;
+
+/// What was gathered for a slide.
+#[derive(Drop)]
+pub(crate) enum Gathered {
+    /// A polygon that the slide looks at and that holds its target.
+    Target(PolyRef),
+    /// All polygons that it looks at, the start's first, each once.
+    All(Vec<PolyRef>),
+}
+
+/// The polygons that a slide looks at, as far as one that holds its target; the start's was looked at before.
+pub(crate) fn gather(alloc: Global, mesh: &Mesh, asked: &Slide) -> Result<Gathered, AllocError>
     requires sound { IsSound mesh.now }
     requires start { StartsIn mesh.now asked.now }
-    ensures { IfOk result (λ list. (at : PolyRef) → Contains list.items at ↔ LooksAt mesh.now asked.now at) }
+    ensures { IfOk result (IsGatheredFor mesh.now asked.now) }
 {
-    let mut list = Vec::new(alloc);
+    let mut list = Vec::with_capacity(alloc, ROOM)?;
     list.push(asked.from.polygon)?;
     let mut next = 0;
     while next < list.len() {
         let at = list[next];
+        if is_ending(mesh, asked, at) {
+            return Ok(Gathered::Target(at));
+        }
         push_passed(mesh, asked, inner(mesh, at), &mut list)?;
         push_passed(mesh, asked, outer(mesh, at), &mut list)?;
         next += 1;
     }
-    Ok(list)
+    Ok(Gathered::All(list))
+}
+
+/// Whether a polygon other than the start's holds a slide's target.
+fn is_ending(mesh: &Mesh, asked: &Slide, at: PolyRef) -> bool
+    requires sound { IsSound mesh.now }
+    requires start { StartsIn mesh.now asked.now }
+    ensures { IsTrue result → IsHeldAt mesh.now asked.now.to at }
+{
+    if at == asked.from.polygon {
+        return false;
+    }
+    match poly(mesh, at) {
+        Some(polygon) => holds(&polygon, asked.to),
+        None => false,
+    }
 }
 
 /// Appends the polygons that those of some links enter that a slide passes, if they are not in the list.
@@ -41,7 +72,7 @@ fn push_passed(
     requires sound { IsSound mesh.now }
     requires start { StartsIn mesh.now asked.now }
     requires links { All (IsLeading mesh.now) links.now }
-    ensures { OnOk result (IsGathered mesh.now asked.now links.now list.old.items list.new.items) }
+    ensures { OnOk result (IsGathered (IsPassed mesh.now asked.now) links.now list.old.items list.new.items) }
 {
     for link in links {
         if is_missed(mesh, asked, list.as_slice(), link) {
@@ -56,7 +87,7 @@ fn is_missed(mesh: &Mesh, asked: &Slide, list: &[PolyRef], link: &Link) -> bool
     requires sound { IsSound mesh.now }
     requires start { StartsIn mesh.now asked.now }
     requires link { IsLeading mesh.now link.now }
-    ensures { IsTrue result ↔ IsMissed mesh.now asked.now list.now link.now }
+    ensures { IsTrue result ↔ IsMissed (IsPassed mesh.now asked.now) list.now link.now }
 {
     !has(list, link.to) && is_passed(mesh, asked, link)
 }

@@ -9,6 +9,7 @@
 
 mod around;
 mod discs;
+mod facing;
 mod feet;
 mod questions;
 mod rows;

@@ -8,7 +8,7 @@ ghost use Rattle.mesh_types.specs.WholeMesh.{poly_at};
 ghost use Rattle.wall_slide.specs.Slides.{CanSlide, EndsNoFarther, IsFloorTold, IsRightSlide, LooksAt, StartsIn};
 ghost use Rattle.wall_slide.specs.Ends.{IsEnd, IsNearerEnd, IsNearestEnd, IsThere};
 
-use crate::around::gather;
+use crate::around::{Gathered, gather};
 use crate::discs::Motion;
 use crate::feet::nearer_in;
 use crate::questions::{Slide, SlideAnswer};
@@ -66,8 +66,13 @@ fn end_of(alloc: Global, mesh: &Mesh, asked: &Slide) -> Result<SlideEnd, AllocEr
             point: asked.to,
         });
     }
-    let list = gather(alloc, mesh, asked)?;
-    Ok(nearest_end(mesh, asked, list.as_slice()))
+    match gather(alloc, mesh, asked)? {
+        Gathered::Target(at) => Ok(SlideEnd {
+            polygon: at,
+            point: asked.to,
+        }),
+        Gathered::All(list) => Ok(nearest_end(mesh, asked, list.as_slice())),
+    }
 }
 
 /// The nearest end in polygons that a slide looks at, of which the start's is one.

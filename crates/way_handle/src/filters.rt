@@ -9,7 +9,7 @@ use path_queries::Filter;
 
 /// The filter of a set of areas and of costs, one an area; without any the costs are those of the mesh. There is none exactly where the costs
 /// are neither.
-pub(crate) fn filter_of(areas: u64, costs: &[u32]) -> Option<Filter>
+pub fn filter_of(areas: u64, costs: &[u32]) -> Option<Filter>
     ensures filter { IfSome result (λ filter. filter ≡ filter_asked areas costs.now) }
     ensures rules { IfSome result IsFilter }
     ensures none { IfNone result (IsFilter (filter_asked areas costs.now) → ⊥) }

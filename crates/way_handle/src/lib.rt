@@ -16,6 +16,7 @@ mod reading;
 mod repairs;
 
 pub use checks::{NavdKept, check};
+pub use filters::filter_of;
 pub use floods::{NavdFlood, NavdReached, flood};
 pub use followers::{NavdFollower, follow};
 pub use nearest::{NavdGoal, NavdNearest, nearest_goal};

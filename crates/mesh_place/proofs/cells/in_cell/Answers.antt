@@ -5,7 +5,7 @@ use Rattle.mesh_types.specs.declared.storeys.MeshPlace.{MeshPlace}
 use Rattle.mesh_types.specs.Places.{column_gap}
 use Rattle.mesh_place.specs.Searches.{IsOverCell, IsWithin, place_over}
 use Rattle.mesh_place.proofs.SearchLaws.{found_measurable, passed, taken, led_beyond, led_left_out, led_found}
-use Rattle.mesh_place.proofs.ScanLaws.{not_near, stands_over, reach_over, led_over}
+use Rattle.mesh_place.proofs.ScanLaws.{holds_it, not_near, stands_over, reach_over, led_over}
 use Rattle.mesh_place.proofs.cells.in_cell.Goals as goal
 
 pub returns-then-not-is_height_near : goal.returns-then-not-is_height_near
@@ -60,3 +60,13 @@ returns-then-holds c =
     (λ other stands one. (one, one.over)))
     stands near
     (taken mesh search.asked c.args.best (place_over part cell point) stands near (sym c.comes_before.ensures ∙ c.if-not-comes_before.false))
+
+pub returns-then-is_cell_right : goal.returns-then-is_cell_right
+returns-then-is_cell_right c =
+    let mesh = c.args.mesh.now in
+    let search = c.args.search.now in
+    let part = c.args.part.now in
+    let cell = c.args.cell in
+    passed mesh search.asked c.args.best (λ (other : MeshPlace). IsOverCell part cell other × IsWithin search other.point) c.requires.best
+    (λ other stands near one. c.is_cell_right.ensures c.if-is_cell_right.true other.point one.0.over
+    (holds_it mesh search.asked part other c.requires.part stands one.0.polygon))

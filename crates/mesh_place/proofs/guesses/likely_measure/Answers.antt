@@ -4,6 +4,14 @@ use Rattle.mesh_locate.proofs.Reached.{box_there}
 use Rattle.mesh_place.proofs.ScanLaws.{low_area}
 use Rattle.mesh_place.proofs.guesses.likely_measure.Goals as goal
 
+pub meets-requires-clause-low : goal.meets-requires-clause-low
+meets-requires-clause-low c =
+    (box_there c.args.polygons.now c.args.place c.extent-extent.result c.extent-extent.ensures c.requires.polygons c.requires.there).low
+
+pub meets-requires-clause-high : goal.meets-requires-clause-high
+meets-requires-clause-high c =
+    (box_there c.args.polygons.now c.args.place c.extent-extent.result c.extent-extent.ensures c.requires.polygons c.requires.there).high
+
 pub box_gap-gap-requires-clause-low : goal.box_gap-gap-requires-clause-low
 box_gap-gap-requires-clause-low c =
     (box_there c.args.polygons.now c.args.place c.extent-extent.result c.extent-extent.ensures c.requires.polygons c.requires.there).low

@@ -1,50 +1,70 @@
-use Rattle.std.proofs.Common.{◌≡◌, ◌+◌, length, refl, sym, ap, ◌∙◌, subst}
-use Rattle.std.specs.Prelude.{All, slice_get, option_and_then}
+use Rattle.std.proofs.Common.{◌≡◌, ℕ, ◌+◌, ◌*◌, ◌≤◌, length, refl, sym, ap, ◌∙◌, subst}
+use Rattle.std.specs.Prelude.{Some, slice_get}
 use Rattle.std.proofs.lemmas.Option.{slice_get_read}
 use Rattle.mesh_types.specs.declared.links.PolyRef.{PolyRef}
-use Rattle.mesh_types.specs.declared.mesh.TileMesh.{TileMesh}
 use Rattle.mesh_types.specs.declared.storeys.MeshPlace.{MeshPlace}
-use Rattle.mesh_types.specs.FitTiles.{IsPolygon}
-use Rattle.mesh_types.proofs.MeshPolygons.{tile_at}
-use Rattle.mesh_place.proofs.SearchLaws.{passed, more, fewer}
+use Rattle.mesh_place.specs.declared.bounds.ReachSquare.{ReachSquare}
+use Rattle.mesh_place.specs.Bounds.{IsNearTo, limit_of}
+use Rattle.mesh_place.proofs.BoundLaws.{adds, none_near, tile_floor}
+use Rattle.mesh_place.proofs.SearchLaws.{either_within, found_measurable, passed, more, fewer, no_less}
 use Rattle.mesh_place.proofs.TileScan.{IsEarlier, no_earlier, next_polygon, all_polygons}
 use Rattle.mesh_place.proofs.scan.in_tile.Goals as goal
 
+pub returns-in_default : goal.returns-in_default
+returns-in_default c =
+    let mesh = c.args.mesh.now in
+    let asked = c.args.asked.now in
+    let tile = c.get-here.result.now in
+    let there : slice_get mesh.tiles c.args.tile ≡ Some tile =
+    slice_get_read mesh.tiles (length mesh.tiles) c.args.tile c.at.result.now refl c.requires.there c.at.ensures ∙ ap Some (sym c.get-here.ensures) in
+    passed mesh asked c.args.best (λ (other : MeshPlace). other.polygon.tile ≡ c.args.tile) c.requires.best
+    (none_near mesh asked c.whole.result.floors (λ (other : MeshPlace). other.polygon.tile ≡ c.args.tile) c.in_default.ensures.part
+    (tile_floor mesh c.args.tile tile c.whole.result.floors there c.whole.ensures.floors))
+
+pub reach_left-requires-clause-best : goal.reach_left-requires-clause-best
+reach_left-requires-clause-best c = found_measurable c.args.mesh.now c.args.asked.now c.args.best c.requires.sound c.requires.best
+
 pub loop-i-init : goal.loop-i-init
 loop-i-init c =
-    passed c.args.mesh.now c.args.asked.now c.args.best (IsEarlier c.args.tile 0) c.requires.best
-    (λ other stands near one. no_earlier c.args.tile other one)
+    let asked = c.args.asked.now in
+    let reach = c.square_around-square.result.reach in
+    passed c.args.mesh.now asked c.args.best (λ (other : MeshPlace). IsEarlier c.args.tile 0 other × IsNearTo asked reach other) c.requires.best
+    (λ other stands near one. no_earlier c.args.tile other one.0)
 
-pub in_polygon-nearest-requires-clause-listed : goal.in_polygon-nearest-requires-clause-listed
-in_polygon-nearest-requires-clause-listed c =
+pub in_square-nearest-requires-clause-tile : goal.in_square-nearest-requires-clause-tile
+in_square-nearest-requires-clause-tile c =
     let mesh = c.args.mesh.now in
-    let tile = c.at.result.now in
-    let there = slice_get_read mesh.tiles (length mesh.tiles) c.args.tile tile refl c.requires.there c.at.ensures in
-    ap (option_and_then (λ (d : TileMesh). slice_get d.polys c.loop-i.i)) there ∙ ap (λ (d : TileMesh). slice_get d.polys c.loop-i.i) (sym c.get.ensures)
+    slice_get_read mesh.tiles (length mesh.tiles) c.args.tile c.at.result.now refl c.requires.there c.at.ensures ∙ ap Some (sym c.get-here.ensures)
 
-pub in_polygon-nearest-requires-clause-polygons : goal.in_polygon-nearest-requires-clause-polygons
-in_polygon-nearest-requires-clause-polygons c =
-    let mesh = c.args.mesh.now in
-    let tile = c.at.result.now in
-    let there = slice_get_read mesh.tiles (length mesh.tiles) c.args.tile tile refl c.requires.there c.at.ensures in
-    subst (λ (d : TileMesh). All IsPolygon d.polys) (sym c.get.ensures) (tile_at mesh c.args.tile tile c.requires.sound there).fit.polys
-
-pub in_polygon-nearest-requires-clause-best : goal.in_polygon-nearest-requires-clause-best
-in_polygon-nearest-requires-clause-best c = c.loop-i.invariant.found
+pub in_square-nearest-requires-clause-best : goal.in_square-nearest-requires-clause-best
+in_square-nearest-requires-clause-best c = c.loop-i.invariant.found
 
 pub loop-i-preserved : goal.loop-i-preserved
 loop-i-preserved c =
+    let asked = c.args.asked.now in
+    let reach = c.square_around-square.result.reach in
     let at : PolyRef = record { tile = c.args.tile; index = c.loop-i.i } in
-    more c.args.mesh.now c.args.asked.now c.args.best c.loop-i.nearest c.in_polygon-nearest.result (IsEarlier c.args.tile c.loop-i.i)
-    (λ (other : MeshPlace). other.polygon ≡ at) (IsEarlier c.args.tile (c.loop-i.i + 1)) c.loop-i.invariant c.in_polygon-nearest.ensures
-    (λ other stands near one. next_polygon c.args.tile c.loop-i.i other one)
+    more c.args.mesh.now asked c.args.best c.loop-i.nearest c.in_square-nearest.result
+    (λ (other : MeshPlace). IsEarlier c.args.tile c.loop-i.i other × IsNearTo asked reach other)
+    (λ (other : MeshPlace). (other.polygon ≡ at) × IsNearTo asked reach other)
+    (λ (other : MeshPlace). IsEarlier c.args.tile (c.loop-i.i + 1) other × IsNearTo asked reach other)
+    c.loop-i.invariant c.in_square-nearest.ensures
+    (λ other stands near one. either_within (next_polygon c.args.tile c.loop-i.i other one.0) one.1)
 
 pub returns : goal.returns
 returns c =
     let mesh = c.args.mesh.now in
-    let tile = c.at.result.now in
-    let there = slice_get_read mesh.tiles (length mesh.tiles) c.args.tile tile refl c.requires.there c.at.ensures in
-    let polys = c.len-i-end.ensures ∙ ap (λ (d : TileMesh). length d.polys) c.get.ensures in
-    fewer mesh c.args.asked.now c.args.best c.loop-i.nearest (IsEarlier c.args.tile c.loop-i.i) (λ (other : MeshPlace). other.polygon.tile ≡ c.args.tile)
-    c.loop-i.invariant
-    (λ other stands near at. all_polygons mesh c.args.tile c.len-i-end.result c.loop-i.i tile there polys c.loop-i-test.false other stands at)
+    let asked = c.args.asked.now in
+    let reach = c.square_around-square.result.reach in
+    let tile = c.get-here.result.now in
+    let there : slice_get mesh.tiles c.args.tile ≡ Some tile =
+    slice_get_read mesh.tiles (length mesh.tiles) c.args.tile c.at.result.now refl c.requires.there c.at.ensures ∙ ap Some (sym c.get-here.ensures) in
+    let among : MeshPlace → Type 0 = λ (other : MeshPlace). other.polygon.tile ≡ c.args.tile in
+    no_less mesh asked c.args.best c.loop-i.nearest c.in-Some.part reach among
+    (adds mesh asked c.whole.result.floors c.in-Some.part among c.in-Some.ensures.part
+    (tile_floor mesh c.args.tile tile c.whole.result.floors there c.whole.ensures.floors))
+    (subst (λ (n : ℕ). limit_of mesh.setting.agent.climb asked c.in-Some.part c.args.best ≤ n * n) (sym (ap (λ (s : ReachSquare). s.reach) c.square_around-square.ensures))
+    c.reach_left.ensures.enough)
+    (fewer mesh asked c.args.best c.loop-i.nearest (λ (other : MeshPlace). IsEarlier c.args.tile c.loop-i.i other × IsNearTo asked reach other)
+    (λ (other : MeshPlace). among other × IsNearTo asked reach other) c.loop-i.invariant
+    (λ other stands near one. (all_polygons mesh c.args.tile c.len-i-end.result c.loop-i.i tile there c.len-i-end.ensures c.loop-i-test.false other stands one.0, one.1)))

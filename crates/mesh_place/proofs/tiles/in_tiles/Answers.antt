@@ -1,4 +1,4 @@
-use Rattle.std.proofs.Common.{◌*◌, ◌≤◌, ℕ, subst}
+use Rattle.std.proofs.Common.{◌*◌, ◌≤◌, ℕ, subst, arith}
 use Rattle.nav_base.specs.Deviation.{square_of}
 use Rattle.nav_base.specs.Point.{from_to}
 use Rattle.nav_ground.specs.Tiling.{tile_rows}
@@ -24,4 +24,5 @@ returns c =
     (λ (place : MeshPlace). IsInTileRows mesh (tile_rows mesh.setting) place × (square_of (from_to asked.point place.point) ≤ n * n)))
     c.tiles_around.ensures.reach c.in_tile_rows.ensures in
     after_more mesh asked c.args.best likely c.in_tile_rows.result (λ (place : MeshPlace). ⊥) (IsInTileRows mesh (tile_rows mesh.setting)) c.likely_place-likely.ensures
-    (no_less mesh asked likely c.in_tile_rows.result c.reach_left-reach.result (IsInTileRows mesh (tile_rows mesh.setting)) c.reach_left-reach.ensures.enough rows)
+    (no_less mesh asked likely c.in_tile_rows.result 0 c.reach_left-reach.result (IsInTileRows mesh (tile_rows mesh.setting)) (λ other stands near one. omega arith)
+    c.reach_left-reach.ensures.enough rows)

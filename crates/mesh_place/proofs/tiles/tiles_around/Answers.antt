@@ -1,5 +1,5 @@
 use Rattle.std.proofs.Common.{ℕ, ◌*◌, ◌≤◌, ◌<◌, subst}
-use Rattle.mesh_place.specs.declared.tiles.ReachEnds.{ReachEnds}
+use Rattle.mesh_place.specs.declared.columns.ReachEnds.{ReachEnds}
 use Rattle.mesh_place.specs.Tiles.{AreWithin}
 use Rattle.mesh_place.proofs.TileRows.{are_around}
 use Rattle.mesh_place.proofs.tiles.tiles_around.Goals as goal

@@ -15,7 +15,7 @@ pub loop-tile-preserved : goal.loop-tile-preserved
 loop-tile-preserved c = (
   counts_next (λ (tile : TileMesh). open_cells_in c.args.areas tile.storeys.list) c.args.mesh.now.tiles c.loop-tile.tile c.at.result.now c.loop-tile.count
       c.count_in_tile-count.result (omega (arith, c.len-tile-end.ensures, c.loop-tile-test.true)) c.at.ensures c.loop-tile.invariant.0
-      (c.count_in_tile-count.ensures.value ∙ ap (open_cells_in c.args.areas) (c.list.ensures.value ∙ ap (λ (tile : TileMesh). tile.storeys.list) c.get.ensures)),
+      (c.count_in_tile-count.ensures.value ∙ ap (λ (tile : TileMesh). open_cells_in c.args.areas tile.storeys.list) c.get.ensures),
   omega (arith, c.loop-tile.invariant.1, c.count_in_tile-count.ensures.bound),
 )
 

@@ -16,10 +16,10 @@ returns-then-left-count-clause-value c =
     let i = c.loop-tile.tile in
     let left = c.loop-tile.left in
     let here = c.at.result.now in
-    let list : c.list-storeys.result.now ≡ here.storeys.list = c.list-storeys.ensures.value ∙ ap (λ (tile : TileMesh). tile.storeys.list) c.get.ensures in
-    let counted : c.count_in_tile-count.result ≡ open_cells_in areas here.storeys.list = c.count_in_tile-count.ensures.value ∙ ap (open_cells_in areas) list in
+    let counted : c.count_in_tile-count.result ≡ open_cells_in areas here.storeys.list =
+    c.count_in_tile-count.ensures.value ∙ ap (λ (tile : TileMesh). open_cells_in areas tile.storeys.list) c.get.ensures in
     c.spot_in_tile.ensures.value
-    ∙ ap (λ all. slice_get (tile_spots areas i all) left) list
+    ∙ ap (λ (tile : TileMesh). slice_get (tile_spots areas i tile.storeys.list) left) c.get.ensures
     ∙ sym (in_this (λ (tile : ℕ × TileMesh). tile_spots areas tile.0 tile.1.storeys.list) i i c.args.mesh.now.tiles here left c.count_in_tile-count.result
     (omega (arith, c.len-tile-end.ensures, c.loop-tile-test.true)) c.at.ensures (length-tile_spots areas i here.storeys.list ∙ sym counted) c.if-left-count.true)
     ∙ c.loop-tile.invariant
@@ -29,8 +29,8 @@ loop-tile-preserved c =
     let areas = c.args.areas in
     let i = c.loop-tile.tile in
     let here = c.at.result.now in
-    let list : c.list-storeys.result.now ≡ here.storeys.list = c.list-storeys.ensures.value ∙ ap (λ (tile : TileMesh). tile.storeys.list) c.get.ensures in
-    let counted : c.count_in_tile-count.result ≡ open_cells_in areas here.storeys.list = c.count_in_tile-count.ensures.value ∙ ap (open_cells_in areas) list in
+    let counted : c.count_in_tile-count.result ≡ open_cells_in areas here.storeys.list =
+    c.count_in_tile-count.ensures.value ∙ ap (λ (tile : TileMesh). open_cells_in areas tile.storeys.list) c.get.ensures in
     sym (past_this (λ (tile : ℕ × TileMesh). tile_spots areas tile.0 tile.1.storeys.list) i i c.args.mesh.now.tiles here c.loop-tile.left
     c.count_in_tile-count.result (omega (arith, c.len-tile-end.ensures, c.loop-tile-test.true)) c.at.ensures
     (length-tile_spots areas i here.storeys.list ∙ sym counted) c.if-left-count.false)

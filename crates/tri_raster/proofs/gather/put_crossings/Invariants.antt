@@ -1,16 +1,13 @@
-use Rattle.std.proofs.Common.{◌≡◌, ℕ, ◌+◌, ◌≤◌, length, min}
-use Rattle.tri_raster.specs.declared.triangle.Tri.{Tri}
-use Rattle.tri_raster.specs.Spots.{IsSpotOf}
-use Rattle.tri_raster.specs.Bounds.{IsWider, StaysFilled}
-use Rattle.tri_raster.proofs.Crossed.{AreAboutLines}
+use Rattle.std.proofs.Common.{◌≡◌, ◌+◌, ◌-◌, ◌≤◌, length, min}
+use Rattle.tri_raster.specs.Bounds.{put_at}
+use Rattle.tri_raster.proofs.Crossed.{AreWidenedUpTo}
 use Rattle.tri_raster.proofs.gather.put_crossings.Given as goal
 
--- the lines so far
+-- the lines so far, as if the height at the last of them were put into the column right of it too
 abbrev pub invariant-loop-line : goal.invariant-loop-line
 invariant-loop-line l = record {
-  after : l.left.column + 1 ≤ l.line;
+  after : l.left.column + 2 ≤ l.line;
+  until : l.line ≤ l.end;
   end : l.end ≡ min l.right.end (length l.bounds + 1);
-  wider : IsWider l.initial.bounds l.bounds;
-  filled : (tri : Tri) (z : ℕ) → IsSpotOf tri z l.left.spot → IsSpotOf tri z l.right.spot → StaysFilled tri z l.initial.bounds l.bounds;
-  about : AreAboutLines l.left.spot l.right.spot l.line l.bounds;
+  widened : AreWidenedUpTo l.left l.right l.line l.fn.bounds (put_at l.bounds (l.line - 1) l.low l.high);
 }

@@ -6,7 +6,7 @@ use Rattle.mesh_types.specs.declared.links.PolyRef.{PolyRef}
 use Rattle.wall_slide.specs.Ends.{IsThere}
 use Rattle.wall_query.specs.Walls.{AreWallsOf}
 use Rattle.wall_query.proofs.AllLaws.{all_of}
-use Rattle.wall_query.proofs.GatherLaws.{all_there}
+use Rattle.wall_query.proofs.ListedThere.{all_there}
 use Rattle.wall_query.proofs.all.all_walls.Goals as goal
 
 pub walls_of-requires-clause-list : goal.walls_of-requires-clause-list

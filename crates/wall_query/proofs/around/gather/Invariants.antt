@@ -1,11 +1,12 @@
 use Rattle.std.proofs.Common.{◌+◌, ◌-◌, length}
-use Rattle.wall_query.proofs.GatherLaws.{IsGathering}
-use Rattle.wall_query.proofs.Lefts.{lacks}
+use Rattle.wall_query.specs.Around.{IsPassed}
+use Rattle.wall_slide.proofs.GatherLaws.{IsGathering}
+use Rattle.wall_slide.proofs.Lefts.{lacks}
 use Rattle.wall_query.proofs.around.gather.Given as goal
 
 -- the list has what the links enter of its polygons before the next one
 abbrev pub invariant-loop-next : goal.invariant-loop-next
-invariant-loop-next l = IsGathering l.mesh l.fn.around l.list.items l.next
+invariant-loop-next l = IsGathering l.mesh (IsPassed l.mesh l.fn.around) l.fn.around.from.polygon l.list.items l.next
 
 -- how many polygons the list lacks, and how many of it are left
 abbrev pub decreases-loop-next : goal.decreases-loop-next

@@ -7,7 +7,7 @@ use Rattle.wall_query.specs.declared.questions.Wall.{Wall}
 use Rattle.wall_query.specs.Walls.{HasWallsOf, IsBestOf, IsInReach}
 use Rattle.wall_query.proofs.AllLaws.{in_reach}
 use Rattle.wall_query.proofs.BestLaws.{of_within}
-use Rattle.wall_query.proofs.GatherLaws.{all_there}
+use Rattle.wall_query.proofs.ListedThere.{all_there}
 use Rattle.wall_query.proofs.nearest.nearest_within.Goals as goal
 
 pub walls_of-requires-clause-list : goal.walls_of-requires-clause-list

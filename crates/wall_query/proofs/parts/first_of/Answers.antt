@@ -11,7 +11,7 @@ use Rattle.wall_slide.specs.Gathers.{IsLeading}
 use Rattle.wall_query.specs.Parts.{IsBeyond, IsFirstAmong}
 use Rattle.wall_query.proofs.FieldPoints.{edge_field, portal_field}
 use Rattle.wall_query.proofs.FirstLaws.{one_less, one_more, right_coordinates}
-use Rattle.wall_query.proofs.Listed.{taken_element}
+use Rattle.wall_query.proofs.ListLaws.{taken_element}
 use Rattle.wall_query.proofs.parts.first_of.Goals.{then-is_beyond, else-is_beyond}
 use Rattle.wall_query.proofs.parts.first_of.Goals as goal
 

@@ -13,7 +13,7 @@ use Rattle.wall_query.specs.declared.parts.PolygonEdge.{PolygonEdge}
 use Rattle.wall_query.specs.Parts.{IsBeyond, IsFirst, IsFirstAmong}
 use Rattle.wall_query.proofs.FieldPoints.{edge_field}
 use Rattle.wall_query.proofs.FirstLaws.{all_links, inner_links_alone, right_coordinates}
-use Rattle.wall_query.proofs.LeavingLinks.{inner_leading, outer_leading}
+use Rattle.wall_slide.proofs.LeavingLinks.{inner_leading, outer_leading}
 use Rattle.wall_query.proofs.parts.next_portal.Goals as goal
 
 pub first_of-inside-requires-clause-links : goal.first_of-inside-requires-clause-links

@@ -1,5 +1,12 @@
-use Rattle.wall_slide.proofs.FootLaws.{found, none_held, none_within}
+use Rattle.std.proofs.Common.{pos, arith}
+use Rattle.wall_slide.specs.Feet.{IsOnRow}
+use Rattle.wall_slide.proofs.FootLaws.{found, none_held, none_within, nothing}
 use Rattle.wall_slide.proofs.feet.nearer_on_line.Goals as goal
+
+pub returns-then-is_row_beyond : goal.returns-then-is_row_beyond
+returns-then-is_row_beyond c =
+    nothing c.args.polygon.now c.args.motion c.args.best (IsOnRow (pos c.args.z)) c.requires.best
+    (λ q foot on. let far = c.is_row_beyond.ensures c.if-is_row_beyond.true q on (c.requires.facing.left q foot.holds) in omega (arith, far, c.square_distance.ensures))
 
 pub returns-in_default : goal.returns-in_default
 returns-in_default c =

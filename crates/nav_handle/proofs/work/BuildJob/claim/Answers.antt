@@ -1,4 +1,4 @@
-use Rattle.std.proofs.Common.{◌∙◌, ap, sym}
+use Rattle.std.proofs.Common.{◌∙◌, ap}
 use Rattle.build_queue.specs.BookState.{BookState}
 use Rattle.build_queue.specs.Steps.{after_claim, after_put_back}
 use Rattle.nav_book.proofs.StepLaws.{is_given}

@@ -1,0 +1,16 @@
+pub mod Scales
+pub mod Pivots
+pub mod HeldLines
+pub mod Turns
+pub mod FanLaws
+pub mod SideTurns
+pub mod FanCones
+pub mod FanCorners
+pub mod FanTurns
+pub mod FanWhole
+pub mod FanSides
+pub mod LeftTurns
+pub mod RightTurns
+pub mod LastLegs
+pub mod FanLines
+pub mod FanRows
