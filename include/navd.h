@@ -25,8 +25,8 @@
  *
  * Threads. A handle is in one call at a time, questions too; it may go from thread to thread, by a lock or by the start or the end of a thread.
  * Calls of two handles may run side by side (tested), also of a level and of views and jobs of it: so one thread changes a level while others ask
- * views, each its own, or build jobs. A view is brought up to a level by navd_look, and a job is claimed, handed in and put back by calls that are
- * of both. No call is made from a signal handler, nor in the forked child of a process that has threads.
+ * views, each its own, or build jobs. A view is brought up to a level by navd_look, to another view by navd_view_copy, and a job is claimed, handed in and
+ * put back by calls that are of both. No call is made from a signal handler, nor in the forked child of a process that has threads.
  *
  * Stack. Little is wanted: `navd play` of the examples runs with a stack of 48 kilobytes, `ulimit -s 48` (measured).
  *
@@ -72,7 +72,7 @@ extern "C" {
 #define NAVD_WALL 13u         /* the ray ends at an edge */
 #define NAVD_NO_ROOM 14u      /* there is too little room for what is told; nothing was done */
 #define NAVD_STALE 15u        /* the build is wanted no more; it was let go */
-#define NAVD_FOREIGN 16u      /* the job is of a ground that is another there; nothing was done */
+#define NAVD_FOREIGN 16u      /* the job, or what was saved, is of another ground; nothing was done */
 #define NAVD_BUSY 17u         /* the job's handle holds a job, or obstacles of the level are alive; nothing was done */
 #define NAVD_TOO_MANY_SPANS 18u /* the triangles give more than 2000000 spans, the most that a field can have */
 #define NAVD_PARTIAL 19u        /* no way leads to the goal, or none within the limits; the way to the nearest place was found */
@@ -80,6 +80,8 @@ extern "C" {
 #define NAVD_CUT 21u            /* the kept path leads on in part; no polygon holds the middle of the cell that was drawn */
 #define NAVD_NO_PLACE 22u       /* no place, or no wall, is in reach, or the place is none of the mesh */
 #define NAVD_NO_OBSTACLE 24u    /* no obstacle has the id; nothing was done */
+#define NAVD_NOT_SAVED 25u      /* the bytes are not what a save wrote; nothing was done */
+#define NAVD_ABOUT 26u          /* a line was found; the shortest may be shorter, by no more than `upper` less `lower` */
 
 /* A handle of a level. Zeroed, it holds nothing: navd_level level = {0}; */
 typedef struct {
@@ -302,6 +304,18 @@ typedef struct {
     navd_polygon first;
     size_t links, turns;
 } navd_path;
+
+/* A line between two places, as short as the search finds it; what areas cost plays no part. The host writes `way`, after how many records of the search,
+ * of about 100 bytes each, it ends with what was found by then, and whether it passes over ends of portals that the mesh surrounds (not 0), which makes it
+ * several times as fast. The call leaves two numbers in 65536ths of a cell, the polygons in which the line begins and ends, and how many links and turns
+ * it has. The line is not longer than `upper`, and no line over the links of the mesh is shorter than `lower`, which today is the straight distance. */
+typedef struct {
+    navd_way way;
+    uint32_t most, quick;
+    uint64_t upper, lower;
+    navd_polygon first, last;
+    size_t links, turns;
+} navd_line;
 
 /* Where a ray ends. NAVD_OK: in `last`, which holds the point. NAVD_WALL: at the edge from a to b; num / den of the way leads up to it. */
 typedef struct {
@@ -576,7 +590,8 @@ uint32_t navd_changed_tiles(navd_level *level, uint32_t since, uint32_t *tiles, 
  * Worker threads of the host build tiles beside whoever changes the level: a job is claimed (a call of both handles), built from its own handle
  * alone, as long as it likes, and handed in or put back (calls of both handles). A tile that is claimed is given to no other claim, and navd_step
  * passes it by, until a job of that tile is handed in or put back, whichever claim it is of, or navd_settle, navd_renew or navd_put_back_all ends
- * all claims; then a job may still be handed in. A job may be built, handed in elsewhere and closed after its level was closed. */
+ * all claims; then a job may still be handed in. A job may be built, handed in elsewhere and closed after its level was closed. Of a registry they are
+ * claimed by calls of its own, navd_registry_claim and those below it. */
 
 /* Claims the least tile that is awaited and not claimed; the job's handle holds the job then, and its tile is left at `tile`.
  * NAVD_OK. NAVD_EMPTY, before all others: the level's handle holds none. NAVD_BUSY, before the next. NAVD_SAME: there is no such tile.
@@ -649,9 +664,30 @@ uint32_t navd_registry_rows(navd_registry *registry, navd_row *rows, size_t room
  * version and what is shown are as they were, and another update builds on from there. */
 uint32_t navd_registry_update(navd_registry *registry, uint32_t most, navd_updated *updated);
 
+/* Jobs of a registry: each call is that of a level with a registry in its place, and ends as that one does; the obstacles, their ids and the version stay.
+ * A host's frame makes an update of 0 tiles, which aims at what was asked for, and shows what was aimed at before once its jobs were handed in; an
+ * update of more tiles builds others beside them. Where a history begins again all claims are ended. */
+uint32_t navd_registry_claim(navd_registry *registry, navd_job *job, uint32_t *tile);
+uint32_t navd_registry_submit(navd_registry *registry, navd_job *job);
+uint32_t navd_registry_put_back(navd_registry *registry, navd_job *job);
+uint32_t navd_registry_put_back_all(navd_registry *registry);
+
 /* Brings a view up to what the registry shows, as navd_look does; the version is left at `version`.
  * NAVD_OK. NAVD_EMPTY: the registry's handle holds none. NAVD_NO_MEMORY: the view shows what it showed. */
 uint32_t navd_registry_look(navd_view *view, navd_registry *registry, uint64_t *version);
+
+/* Lays what is saved of a registry into `bytes`, if there is room for all of it; how many bytes it has is left at `length`: 48, and 84 for each obstacle,
+ * and 4 for each that is on (tested). Saved are the ids, the user's numbers and the shapes of the obstacles, which are on and in which order they were put
+ * up, the last id, the version, and width, depth, tile and limit of the field text. The same registry has the same bytes on every machine.
+ * NAVD_OK. NAVD_NO_ROOM: only `length` was left. NAVD_EMPTY. NAVD_NO_MEMORY. */
+uint32_t navd_registry_save(navd_registry *registry, uint8_t *bytes, size_t room, size_t *length);
+
+/* Puts the obstacles that were saved in the place of all others, as they were then: by their ids, on or off, put up in the order of then. The last id and
+ * the version are the greater ones of both, and the version one more, so that neither comes again. The history has an entry more for each obstacle that was on
+ * and for each that is; what is shown stays until navd_registry_update, which builds the tiles alone that differ.
+ * NAVD_OK. NAVD_EMPTY. NAVD_NOT_SAVED: no save wrote these bytes. NAVD_FOREIGN: it was saved of another width, depth, tile or limit. NAVD_TOO_MANY:
+ * 2^64 - 1 versions were shown. NAVD_HISTORY_FULL: the history may not have so many more. NAVD_NO_MEMORY. */
+uint32_t navd_registry_restore(navd_registry *registry, const uint8_t *bytes, size_t length);
 
 /* == Questions, which are answered from what is published ==
  * They change nothing. */
@@ -661,7 +697,8 @@ uint32_t navd_registry_look(navd_view *view, navd_registry *registry, uint64_t *
 uint32_t navd_floors(navd_level *level, uint32_t x, uint32_t z, navd_floor *floors, size_t room, size_t *count);
 
 /* For a host that asks a level for many paths: makes landmarks of what is published, where there are none yet. That takes about as much time as
- * thirty paths, and 32 bytes a polygon; later paths take about a fifth. A publish keeps them where it can; else there are none. Views have none.
+ * thirty paths, and 32 bytes a polygon; later paths take about a fifth. A publish keeps them where it can; else there are none. A view that
+ * is opened or brought up to date after that has them too, but one with costs of its own.
  * So far all is measured and not proved. What is asked is answered rightly either way; of several corridors that cost the same another one may
  * be told.
  * NAVD_OK. NAVD_EMPTY. NAVD_NO_MEMORY. */
@@ -722,6 +759,11 @@ uint32_t navd_count(navd_level *level, navd_counts *counts);
  * NAVD_OK. NAVD_EMPTY: the level's handle holds none. NAVD_NO_MEMORY: the view shows what it showed. */
 uint32_t navd_look(navd_view *view, navd_level *level, uint32_t *published);
 
+/* Brings the view `to` to what `from` shows, with the costs of its own that `from` has, for another thread, which so wants neither the level nor a lock
+ * round it. The mesh is shared. What `to` showed is let go.
+ * NAVD_OK. NAVD_EMPTY: `from` holds none. NAVD_NO_MEMORY. In these two `to` shows what it showed. */
+uint32_t navd_view_copy(navd_view *to, navd_view *from);
+
 /* Closes the view, if the handle holds one; the handle holds nothing then. A view may be closed after its level. */
 void navd_view_close(navd_view *view);
 
@@ -739,6 +781,10 @@ uint32_t navd_view_count(navd_view *view, navd_shown *shown);
 uint32_t navd_view_floors(navd_view *view, uint32_t x, uint32_t z, navd_floor *floors, size_t room, size_t *count);
 uint32_t navd_view_find_path(navd_view *view, const navd_way *way, navd_link *links, size_t links_room, navd_turn *turns, size_t turns_room,
                              navd_path *path);
+/* A line between two places, by its length, with its links, and the turns of a taut line through their portals.
+ * NAVD_OK: no line is shorter by more than a 256th of a cell, or by more than one part in 16384. NAVD_ABOUT: a line may be. NAVD_NO_START, NAVD_NO_GOAL,
+ * NAVD_NO_PATH: nothing is told. NAVD_OUT_OF_RANGE: before all others. NAVD_EMPTY. NAVD_NO_MEMORY. */
+uint32_t navd_view_shortest(navd_view *view, navd_line *line, navd_link *links, size_t links_room, navd_turn *turns, size_t turns_room);
 uint32_t navd_view_cast_ray(navd_view *view, const navd_way *way, navd_ray *ray);
 uint32_t navd_view_find_hop(navd_view *view, navd_hop *hop, const navd_jump *jumps, size_t count, navd_step_taken *steps, size_t steps_room,
                             navd_turn *turns, size_t turns_room);

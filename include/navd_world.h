@@ -24,8 +24,8 @@
  * may end with NAVD_NO_MEMORY. Memory comes from the functions that navd.h names. No pointer into the host's memory is kept.
  *
  * Threads. A world, a snapshot and a route are each in one call at a time, but navd_snapshot_create and navd_snapshot_refresh may be called of a world at
- * any time and in any thread, also while another call of the world runs: they wait for one tile at most. A world is destroyed after the last of these
- * calls; snapshots of it stay good. */
+ * any time and in any thread, also while another call of the world runs: they wait for no build. A world is destroyed after the last of these calls;
+ * snapshots of it stay good. */
 #ifndef NAVD_WORLD_H
 #define NAVD_WORLD_H
 
@@ -97,6 +97,10 @@ void navd_world_destroy(navd_world *world);
 /* What the numbers of a world became, in cells and height units: for calls of navd.h beside these. It stays until the world is destroyed. */
 const navd_mesh *navd_world_mesh(const navd_world *world);
 
+/* Its registry, for calls of navd.h that have no other name here: so worker threads build tiles, as navd_registry_claim says. A call of it is one of the
+ * world. What it publishes is shown by the next update. */
+navd_registry *navd_world_registry(navd_world *world);
+
 /* == Obstacles == */
 
 /* From 1, and never given again. It stays with the obstacle, whatever is done to that. */
@@ -139,6 +143,16 @@ navd_status navd_world_remove(navd_world *world, navd_obstacle_id id);
 /* The obstacles by rising ids, as the library has them (navd.h), as many as there is room for; how many there are is left at `count`.
  * NAVD_OK. */
 navd_status navd_world_obstacles(navd_world *world, navd_row *rows, size_t room, size_t *count);
+
+/* Lays what is saved of the obstacles into `bytes`, if there is room for all of it, as navd_registry_save does; how many bytes it has is left at `length`.
+ * NAVD_OK. NAVD_NO_ROOM: only `length` was left. */
+navd_status navd_world_save(navd_world *world, uint8_t *bytes, size_t room, size_t *length);
+
+/* Puts the obstacles that were saved in the place of all others, as navd_registry_restore does. Their shapes are in the cells and height units of the world
+ * that they were saved of: this one is to have the same ones.
+ * NAVD_OK. NAVD_NOT_SAVED: no save wrote these bytes. NAVD_FOREIGN: the world has more or fewer cells, in larger or smaller tiles, or another
+ * `max_obstacles`. NAVD_TOO_MANY. NAVD_HISTORY_FULL. */
+navd_status navd_world_restore(navd_world *world, const uint8_t *bytes, size_t length);
 
 /* What an update did: the tiles that it built, whether something new is shown (1), whether something that was asked for is not shown yet (1), and the
  * version, which never falls. */

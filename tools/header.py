@@ -27,7 +27,7 @@ WORLD = "include/navd_world.h"
 # Where the hosts name its calls, and how.
 WORLD_HOSTS = {"hosts/cpp/navd_world.hpp": r"\b(navd_(?:status|world|snapshot|route)_\w+)\(", "hosts/csharp/NavdWorld.cs": r"\bextern \w+ (navd_\w+)\(",
                "hosts/python/navd_world.py": r'"(navd_\w+)", \[', "hosts/rust/src/world_sys.rs": r"\bpub fn (navd_\w+)\("}
-CRATES = ("nav_ffi", "nav_handle", "way_handle", "place_handle", "place_way_handle", "wall_handle", "registry_handle", "mesh_handle", "world_grid")
+CRATES = ("nav_ffi", "nav_handle", "way_handle", "place_handle", "place_way_handle", "wall_handle", "line_handle", "registry_handle", "mesh_handle", "world_grid")
 LIBRARY = tuple(f"crates/{name}/src" for name in CRATES)
 C_TYPES = {"uint8_t": "u8", "uint32_t": "u32", "int32_t": "i32", "uint64_t": "u64", "int64_t": "i64", "size_t": "usize", "float": "f32",
            "void": "nothing"}
@@ -114,7 +114,7 @@ def of_header(top):
 
 
 def rust_type(text):
-    if re.fullmatch(r"\*mut (u8|c_void)", text):
+    if text == "*mut c_void":
         return "pointer"
     return re.sub(r"\b(?!mut\b|const\b)[A-Za-z_]\w*", lambda name: plain(name[0]), text)
 
@@ -125,7 +125,8 @@ def rust_structs(place, text):
     structs = {}
     for one in found(place, text, r"#\[repr\(", wanted):
         fields = parts(place, one[2], "\n", r"(?:pub(?:\(crate\))? )?(ghost )?(\w+): (.*?),?")
-        structs[plain(one[1])] = [(field[2], rust_type(field[3])) for field in fields if not field[1] and field[3] != "Global"]
+        told = [(field[2], "pointer" if field[3] == "*mut u8" else rust_type(field[3])) for field in fields if not field[1] and field[3] != "Global"]
+        structs[plain(one[1])] = told
     return structs
 
 
@@ -250,7 +251,8 @@ def csharp_parameters(text):
     """The parameters of a call. The owner of a handle stands for its address, and so does an IntPtr where that handle is closed."""
     for word in parts(CSHARP, re.sub(r"\s+", " ", text), ",", r"(?:(?:\[In\])?\[Out\] )?(ref |out )?(\w+)(\[\])? (\w+)"):
         base, name = csharp_type(word[2]), snake(word[4])
-        is_handle = name in HANDLES and base in (f"{name}_handle", "pointer")
+        owners = (f"{name}_handle", "pointer") if name in HANDLES else [f"{handle}_handle" for handle in HANDLES]
+        is_handle = base in owners
         yield name, "* handle" if is_handle else f"* {base}" if word[1] or word[3] else base
 
 

@@ -49,10 +49,10 @@ static bool is_one_of(uint32_t status, const char *name, const uint32_t *allowed
     is_one_of(status, name, (const uint32_t[]){__VA_ARGS__}, sizeof((const uint32_t[]){__VA_ARGS__}) / sizeof(uint32_t))
 
 static navd_level first, second, third, empty;
-static navd_view view, empty_view;
+static navd_view view, copy, empty_view;
 static navd_job jobs[3];
 static bool holds[3], is_built[3];
-static uint32_t entries, made_by[NAVD_NO_PLACE + 1];
+static uint32_t entries, made_by[NAVD_ABOUT + 1];
 static uint32_t alive[1024], alive_count;
 
 static bool is_block(const navd_block *b) {
@@ -267,7 +267,11 @@ static void of_view(void) {
         status = navd_view_march(&view, &walker, number(64), links, pick(3));
         ENDS(status, "navd_view_march", NAVD_OK, NAVD_NO_PATH);
     }
+    ENDS(navd_view_copy(&copy, &view), "navd_view_copy", NAVD_OK);
+    ENDS(navd_view_count(&copy, &shown), "navd_view_count", NAVD_OK);
+    if (shown.published != shows) ENDS(shown.published, "the length of a copy", shows);
     if (!pick(8)) navd_view_close(&view);
+    if (!pick(8)) navd_view_close(&copy);
 }
 
 /* The way that was told last, in what may be another mesh by now. */
@@ -501,6 +505,28 @@ static void of_walls(const navd_place *from, bool is_place) {
     if (nearest == NAVD_OK && (!count || wall.num > around.reach * (uint64_t)around.reach * wall.den)) ENDS(1, "a wall within the reach", 0);
 }
 
+/* A line between two places, with its numbers: it measures what the path's does, where both lead over the same links. */
+static void of_lines(void) {
+    static navd_link links[4096], others[4096];
+    static navd_turn turns[4096], other_turns[4096];
+    navd_way way = {.from = {coordinate(), coordinate()}, .from_y = number(8191), .to = {coordinate(), coordinate()}, .to_y = number(8191)};
+    navd_line line = {.way = way, .most = pick(2) ? 1000000 : pick(100), .quick = pick(2), .links = 5000};
+    navd_path path = {.links = 6000};
+    size_t room = pick(2) ? 4096 : pick(8);
+    uint32_t status = navd_view_shortest(&view, &line, links, 4096, turns, room);
+    uint32_t found = navd_view_find_path(&view, &way, others, 4096, other_turns, 4096, &path);
+    made_by[status]++;
+    if (status == NAVD_ABOUT) ENDS(found, "a path where a line was found", NAVD_OK);
+    else ENDS(status, "navd_view_shortest", found);
+    if ((found == NAVD_OK) != (line.links != 5000)) ENDS(1, "the links of a line", 0);
+    if (found != NAVD_OK) return;
+    if (line.upper < line.lower || line.links > 4096 || line.turns > 2 * line.links) ENDS(1, "a line that was found", 0);
+    bool is_close = line.upper - line.lower <= (line.lower / 16384 > 256 ? line.lower / 16384 : 256);
+    if (is_close != (status == NAVD_OK)) ENDS(1, "whether a line is the shortest", 0);
+    if (memcmp(&line.first, &path.first, sizeof path.first)) ENDS(1, "where a line begins", 0);
+    if (line.links && memcmp(&links[line.links - 1].to, &line.last, sizeof line.last)) ENDS(1, "where a line ends", 0);
+}
+
 /* Ways between places of what may be another mesh by now, and between those nearest to two points. */
 static void of_place_ways(void) {
     static navd_place from, to;
@@ -544,6 +570,7 @@ static void of_place_ways(void) {
         if (status == NAVD_OK && memcmp(&way.found.cost, &near.found.cost, sizeof near.found.cost)) ENDS(1, "what the way costs", 0);
         if (status == NAVD_OK && memcmp(corners, other_corners, near.found.corners * sizeof *corners)) ENDS(1, "its corners", 0);
     }
+    of_lines();
     of_moves(&from, is_from);
     of_walls(&from, is_from);
     navd_place drawn;
@@ -673,6 +700,7 @@ static void of_empty(void) {
     ENDS(navd_put_back_all(&empty), "an empty handle", NAVD_EMPTY);
     navd_job_close(&nothing);
     ENDS(navd_look(&empty_view, &empty, &told), "an empty handle", NAVD_EMPTY);
+    ENDS(navd_view_copy(&copy, &empty_view), "an empty handle", NAVD_EMPTY);
     ENDS(navd_view_count(&empty_view, &shown), "an empty handle", NAVD_EMPTY);
     ENDS(navd_view_set_costs(&empty_view, costs, 64), "an empty handle", NAVD_EMPTY);
     ENDS(navd_view_polygons(&empty_view, 0, &face, 1, &count), "an empty handle", NAVD_EMPTY);
@@ -776,6 +804,7 @@ int main(int argc, char **words) {
     putchar('\n');
     for (size_t i = 0; i < 3; i++) navd_job_close(&jobs[i]);
     navd_view_close(&view);
+    navd_view_close(&copy);
     navd_close(&first);
     navd_close(&second);
     navd_close(&second);

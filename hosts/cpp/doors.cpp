@@ -72,9 +72,9 @@ void tell_obstacles(navd::World &world) {
     std::puts("");
 }
 
-void tell_update(navd::World &world) {
+void tell_update(navd::World &world, uint32_t max_tiles = NAVD_ALL_TILES) {
     navd_progress progress{};
-    want(world.update(NAVD_ALL_TILES, progress), "an update");
+    want(world.update(max_tiles, progress), "an update");
     std::printf("built %" PRIu32 " published %" PRIu32 " pending %" PRIu32 " version %" PRIu64 "\n", progress.tiles_built, progress.published, progress.pending,
                 progress.version);
 }
@@ -99,6 +99,34 @@ void change_obstacles(navd::World &world) {
                 navd::status_name(world.add(navd::box({1, 1, 1}, {1, 1, 1}, 0, 64), 0, none)));
     tell_obstacles(world);
     tell_update(world);
+    tell_update(world);
+}
+
+// The tiles of a change are built in another thread, and shown by the next update.
+void build_by_jobs(navd::World &world) {
+    navd_obstacle_id id = 0;
+    want(world.add(navd::cylinder({8, 1, 6}, 0.5f, 1), 0, id), "a cylinder");
+    tell_update(world, 0);
+    int built = 0;
+    std::thread([&] {
+        navd::Job job;
+        for (uint32_t tile = 0; navd_registry_claim(world.registry(), job.get(), &tile) == NAVD_OK; built++)
+            if (job.build() != Status::ok || navd_registry_submit(world.registry(), job.get()) != NAVD_OK) break;
+    }).join();
+    std::printf("%d tiles by jobs\n", built);
+    tell_update(world, 0);
+    want(world.remove(id), "a removal");
+    tell_update(world);
+}
+
+void save_and_restore(navd::World &world) {
+    std::vector<uint8_t> saved;
+    want(world.save(saved), "a saving");
+    want(world.remove(2), "a removal");
+    std::printf("saved %zu bytes, less of them %s\n", saved.size(), navd::status_name(world.restore({saved.data(), saved.size() - 1})));
+    tell_obstacles(world);
+    want(world.restore(saved), "a restoration");
+    tell_obstacles(world);
     tell_update(world);
 }
 
@@ -131,7 +159,10 @@ void ask(navd::Snapshot &snapshot, navd::Route &route) {
     tell_route("nowhere", snapshot.find_path({-9, 0, 3}, goal, route), route);
     tell_route("no number", snapshot.find_path({NAN, 0, 3}, goal, route), route);
     navd_shown shown{};
-    if (navd_view_count(snapshot.view(), &shown) == NAVD_OK) std::printf("a view of %" PRIu32 " tiles\n", shown.tiles);
+    navd::View copy;
+    want(Status{navd_view_copy(copy.get(), snapshot.view())}, "a copy");
+    want(copy.count(shown), "a count");
+    std::printf("a view of %" PRIu32 " tiles\n", shown.tiles);
 }
 
 void tell_refused(navd_world_def def, const std::vector<uint32_t> &indices) {
@@ -146,6 +177,8 @@ void play_more(navd::World &world, navd::Snapshot &snapshot, navd::Route &route)
     for (const uint32_t number : {set.width, set.depth, set.tile, set.height, set.climb, set.radius}) std::printf("%" PRIu32 " ", number);
     std::puts("");
     change_obstacles(world);
+    build_by_jobs(world);
+    save_and_restore(world);
     want(snapshot.refresh(world), "a refresh");
     std::printf("%s\n", navd::status_name(snapshot.refresh(world)));
     std::thread([&] { ask(snapshot, route); }).join();

@@ -71,7 +71,7 @@ enum class [[nodiscard]] Status : uint32_t {
     no_start = NAVD_NO_START, no_goal = NAVD_NO_GOAL, no_path = NAVD_NO_PATH, wall = NAVD_WALL, no_room = NAVD_NO_ROOM,
     stale = NAVD_STALE, foreign = NAVD_FOREIGN, busy = NAVD_BUSY, too_many_spans = NAVD_TOO_MANY_SPANS,
     partial = NAVD_PARTIAL, limit = NAVD_LIMIT, cut = NAVD_CUT, no_place = NAVD_NO_PLACE,
-    no_obstacle = NAVD_NO_OBSTACLE, bad_struct = 23, // the last is of navd_world.h alone
+    no_obstacle = NAVD_NO_OBSTACLE, not_saved = NAVD_NOT_SAVED, about = NAVD_ABOUT, bad_struct = 23, // the last is of navd_world.h alone
 };
 
 // Whether the library has the version of the header: one that is loaded while the program runs may have another.
@@ -101,6 +101,14 @@ private:
 struct Path {
     uint64_t cost = 0;
     navd_polygon first{};
+    std::vector<navd_link> links;
+    std::vector<navd_turn> turns;
+};
+
+// What navd_line tells, with its arrays.
+struct Line {
+    uint64_t upper = 0, lower = 0;
+    navd_polygon first{}, last{};
     std::vector<navd_link> links;
     std::vector<navd_turn> turns;
 };
@@ -405,12 +413,26 @@ public:
         return detail::all(rows, [&](navd_row *to, size_t *count) { return navd_registry_rows(&handle, to, *count, count); });
     }
     Status update(uint32_t most, navd_updated &updated) noexcept { return Status{navd_registry_update(&handle, most, &updated)}; }
+
+    Status claim(Job &job, uint32_t &tile) noexcept { return Status{navd_registry_claim(&handle, job.get(), &tile)}; }
+    Status submit(Job &job) noexcept { return Status{navd_registry_submit(&handle, job.get())}; }
+    Status put_back(Job &job) noexcept { return Status{navd_registry_put_back(&handle, job.get())}; }
+    Status put_back_all() noexcept { return Status{navd_registry_put_back_all(&handle)}; }
+    Status save(std::vector<uint8_t> &bytes) {
+        return detail::all(bytes, [&](uint8_t *to, size_t *count) {
+            const uint32_t end = navd_registry_save(&handle, to, *count, count);
+            return end == NAVD_NO_ROOM ? NAVD_OK : end; // the count is more than the room
+        });
+    }
+    Status restore(Array<uint8_t> bytes) noexcept { return Status{navd_registry_restore(&handle, detail::address(bytes.data()), bytes.size())}; }
 };
 
 class View : public detail::Asked<navd_view, navd_view_close, detail::ViewCalls> {
 public:
     Status look(Level &level, uint32_t &published) noexcept { return Status{navd_look(&handle, level.get(), &published)}; }
     Status look(Registry &registry, uint64_t &version) noexcept { return Status{navd_registry_look(&handle, registry.get(), &version)}; }
+    // Shows what another view shows, with the costs that that one has of its own: for another thread.
+    Status copy(View &from) noexcept { return Status{navd_view_copy(&handle, from.get())}; }
     Status set_costs(Array<uint32_t> costs) noexcept {
         return Status{navd_view_set_costs(&handle, detail::address(costs.data()), costs.size())};
     }
@@ -553,6 +575,26 @@ public:
     Status slide(const navd_place &from, navd_point to, uint64_t areas, navd_place &end) noexcept {
         const navd_place start = from;
         return Status{navd_view_slide(&handle, &start, &to, areas, &end)};
+    }
+    // A line between two places by its length, whatever areas cost. Status::ok: the shortest, as near as is told; Status::about: a line may be shorter, by no more
+    // than line.upper less line.lower. `most` and `quick` as in navd_line.
+    Status shortest(const navd_way &way, uint32_t most, bool quick, Line &line) {
+        navd_line told{};
+        told.way = way;
+        told.most = most;
+        told.quick = quick;
+        Status end = Status::ok;
+        const Status status = detail::both(line.links, line.turns, [&](navd_link *links, size_t &count, navd_turn *turns, size_t &others) {
+            end = Status{navd_view_shortest(&handle, &told, links, count, turns, others)};
+            count = told.links;
+            others = told.turns;
+            return static_cast<uint32_t>(end == Status::about ? Status::ok : end);
+        });
+        line.upper = told.upper;
+        line.lower = told.lower;
+        line.first = told.first;
+        line.last = told.last;
+        return status == Status::ok ? end : status;
     }
     // The wall nearest to a place, and all walls around it.
     Status nearest_wall(const navd_around &around, navd_wall &wall) noexcept {

@@ -116,6 +116,8 @@ public:
     navd_world *get() const noexcept { return world.get(); }
     // What the numbers became, in cells and height units, for calls of navd.h beside these; null where there is no world.
     const navd_mesh *mesh() const noexcept { return world ? navd_world_mesh(world.get()) : nullptr; }
+    // Its registry, for jobs and what else navd.h has; null where there is no world.
+    navd_registry *registry() noexcept { return world ? navd_world_registry(world.get()) : nullptr; }
 
     Status add(const navd_shape &shape, uint64_t user, navd_obstacle_id &id) noexcept {
         return world ? Status{navd_world_add(world.get(), &shape, user, &id)} : Status::empty;
@@ -135,6 +137,16 @@ public:
         return detail::all(rows, [&](navd_row *to, size_t *count) {
             return world ? navd_world_obstacles(world.get(), to, *count, count) : navd_status{NAVD_EMPTY};
         });
+    }
+
+    Status save(std::vector<uint8_t> &bytes) {
+        return detail::all(bytes, [&](uint8_t *to, size_t *count) {
+            const navd_status end = world ? navd_world_save(world.get(), to, *count, count) : navd_status{NAVD_EMPTY};
+            return end == NAVD_NO_ROOM ? navd_status{NAVD_OK} : end; // the count is more than the room
+        });
+    }
+    Status restore(Array<uint8_t> bytes) noexcept {
+        return world ? Status{navd_world_restore(world.get(), detail::address(bytes.data()), bytes.size())} : Status::empty;
     }
 
     Status update(uint32_t max_tiles, navd_progress &progress) noexcept {

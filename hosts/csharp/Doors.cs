@@ -81,10 +81,10 @@ internal static class Doors
         Tell("\n");
     }
 
-    static void TellUpdate(World world)
+    static void TellUpdate(World world, uint maxTiles = Worlds.AllTiles)
     {
         Progress it;
-        Want(world.Update(Worlds.AllTiles, out it), "an update");
+        Want(world.Update(maxTiles, out it), "an update");
         Tell("built {0} published {1} pending {2} version {3}\n", it.TilesBuilt, it.Published ? 1 : 0, it.Pending ? 1 : 0, it.Version);
     }
 
@@ -109,6 +109,42 @@ internal static class Doors
             world.Add(Shape.Box(new Vec3(1, 1, 1), new Vec3(1, 1, 1), 0, 64), 0, out none).Name());
         TellObstacles(world);
         TellUpdate(world);
+        TellUpdate(world);
+    }
+
+    // The tiles of a change are built in another thread, and shown by the next update.
+    static void BuildByJobs(World world)
+    {
+        ulong id;
+        int built = 0;
+        Want(world.Add(Shape.Cylinder(new Vec3(8, 1, 6), 0.5f, 1), 0, out id), "a cylinder");
+        TellUpdate(world, 0);
+        var building = new Thread(() =>
+        {
+            uint tile;
+            using (Registry registry = world.OpenRegistry())
+            using (var job = new Job())
+                for (; registry.Claim(job, out tile) == Status.Ok; built++)
+                    if (job.Build() != Status.Ok || registry.Submit(job) != Status.Ok) break;
+        });
+        building.Start();
+        building.Join();
+        Tell("{0} tiles by jobs\n", built);
+        TellUpdate(world, 0);
+        Want(world.Remove(id), "a removal");
+        TellUpdate(world);
+    }
+
+    static void SaveAndRestore(World world)
+    {
+        var room = new Room<byte>();
+        Want(world.Save(room), "a saving");
+        Want(world.Remove(2), "a removal");
+        byte[] saved = room.Items.Take(room.Count).ToArray();
+        Tell("saved {0} bytes, less of them {1}\n", saved.Length, world.Restore(saved.Take(saved.Length - 1).ToArray()).Name());
+        TellObstacles(world);
+        Want(world.Restore(saved), "a restoration");
+        TellObstacles(world);
         TellUpdate(world);
     }
 
@@ -139,8 +175,8 @@ internal static class Doors
         TellRoute("nowhere", snapshot.FindPath(new Vec3(-9, 0, 3), Goal, route), route);
         TellRoute("no number", snapshot.FindPath(new Vec3(float.NaN, 0, 3), Goal, route), route);
         Shown shown;
-        using (View view = snapshot.OpenView())
-            if (view.Count(out shown) == Status.Ok)
+        using (View view = snapshot.OpenView(), copy = new View())
+            if (copy.Copy(view) == Status.Ok && copy.Count(out shown) == Status.Ok)
                 Tell("a view of {0} tiles\n", shown.Tiles);
     }
 
@@ -157,6 +193,8 @@ internal static class Doors
         Setting set = world.Mesh.Setting;
         Tell("{0} {1} {2} {3} {4} {5} \n", set.Width, set.Depth, set.Tile, set.Height, set.Climb, set.Radius);
         ChangeObstacles(world);
+        BuildByJobs(world);
+        SaveAndRestore(world);
         Want(snapshot.Refresh(world), "a refresh");
         Tell("{0}\n", snapshot.Refresh(world).Name());
         var asking = new Thread(() => Ask(snapshot, route));

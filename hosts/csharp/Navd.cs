@@ -51,7 +51,9 @@ namespace Navd
         Limit = 20,
         Cut = 21,
         NoPlace = 22,
-        NoObstacle = 24
+        NoObstacle = 24,
+        NotSaved = 25,
+        About = 26
     }
 
     // == The structs of include/navd.h, field for field ==
@@ -300,6 +302,16 @@ namespace Navd
     {
         internal ulong Cost;
         internal Polygon First;
+        internal UIntPtr Links, Turns;
+    }
+
+    [StructLayout(LayoutKind.Sequential)]
+    internal struct NavdLine
+    {
+        internal Way Way;
+        internal uint Most, Quick;
+        internal ulong Upper, Lower;
+        internal Polygon First, Last;
         internal UIntPtr Links, Turns;
     }
 
@@ -558,6 +570,18 @@ namespace Navd
         [DllImport(Library)]
         internal static extern Status navd_registry_update(RegistryHandle registry, uint most, out Updated updated);
         [DllImport(Library)]
+        internal static extern Status navd_registry_claim(RegistryHandle registry, JobHandle job, out uint tile);
+        [DllImport(Library)]
+        internal static extern Status navd_registry_submit(RegistryHandle registry, JobHandle job);
+        [DllImport(Library)]
+        internal static extern Status navd_registry_put_back(RegistryHandle registry, JobHandle job);
+        [DllImport(Library)]
+        internal static extern Status navd_registry_put_back_all(RegistryHandle registry);
+        [DllImport(Library)]
+        internal static extern Status navd_registry_save(RegistryHandle registry, [Out] byte[] bytes, UIntPtr room, out UIntPtr length);
+        [DllImport(Library)]
+        internal static extern Status navd_registry_restore(RegistryHandle registry, byte[] bytes, UIntPtr length);
+        [DllImport(Library)]
         internal static extern Status navd_registry_look(ViewHandle view, RegistryHandle registry, out ulong version);
         [DllImport(Library)]
         internal static extern Status navd_floors(LevelHandle level, uint x, uint z, [Out] Floor[] floors, UIntPtr room, out UIntPtr count);
@@ -592,6 +616,8 @@ namespace Navd
         internal static extern Status navd_look(ViewHandle view, LevelHandle level, out uint published);
         [DllImport(Library)]
         internal static extern void navd_view_close(IntPtr view);
+        [DllImport(Library)]
+        internal static extern Status navd_view_copy(ViewHandle to, ViewHandle from);
         [DllImport(Library)]
         internal static extern Status navd_view_set_costs(ViewHandle view, uint[] costs, UIntPtr count);
         [DllImport(Library)]
@@ -656,6 +682,9 @@ namespace Navd
         internal static extern Status navd_view_cast_ray_from(ViewHandle view, ref Place from, ref Point to, ref Ray ray);
         [DllImport(Library)]
         internal static extern Status navd_view_slide(ViewHandle view, ref Place from, ref Point to, ulong areas, ref Place end);
+        [DllImport(Library)]
+        internal static extern Status navd_view_shortest(ViewHandle view, ref NavdLine line, [Out] Link[] links, UIntPtr linksRoom,
+            [Out] Turn[] turns, UIntPtr turnsRoom);
         [DllImport(Library)]
         internal static extern Status navd_view_nearest_wall(ViewHandle view, ref Around around, ref Wall wall);
         [DllImport(Library)]
@@ -737,8 +766,16 @@ namespace Navd
         }
     }
 
-    internal sealed class RegistryHandle : Owned
+    internal class RegistryHandle : Owned
     {
+        internal RegistryHandle()
+        {
+        }
+
+        protected RegistryHandle(IntPtr place) : base(place)
+        {
+        }
+
         protected override bool ReleaseHandle()
         {
             Native.navd_registry_close(handle);
@@ -828,6 +865,15 @@ namespace Navd
     {
         public ulong Cost;
         public Polygon First;
+        public readonly Room<Link> Links = new Room<Link>();
+        public readonly Room<Turn> Turns = new Room<Turn>();
+    }
+
+    /// <summary>A line that is not longer than Upper; no line over the links of the mesh is shorter than Lower. Both are in 65536ths of a cell.</summary>
+    public sealed class Line
+    {
+        public ulong Upper, Lower;
+        public Polygon First, Last;
         public readonly Room<Link> Links = new Room<Link>();
         public readonly Room<Turn> Turns = new Room<Turn>();
     }
@@ -1153,6 +1199,13 @@ namespace Navd
             return Native.navd_registry_look(view, registry.registry, out version);
         }
 
+        /// <summary>Shows what another view shows, with the costs that that one has of its own: for another thread.</summary>
+        public Status Copy(View from)
+        {
+            if (from == this) throw new ArgumentException("a view of itself", "from");
+            return Native.navd_view_copy(view, from.view);
+        }
+
         public Status SetCosts(uint[] costs)
         {
             uint[] items = Given.Items(costs, "costs");
@@ -1379,6 +1432,28 @@ namespace Navd
             return Native.navd_view_slide(view, ref from, ref to, areas, ref end);
         }
 
+        /// <summary>A line between two places by its length, whatever areas cost. Status.Ok: no line is shorter by more than a 256th of a cell, or one part in
+        /// 16384. Status.About: a line may be. The search ends after `most` records, of about 100 bytes each; a quick one passes over ends of portals that the
+        /// mesh surrounds.</summary>
+        public Status Shortest(Way way, uint most, bool quick, Line line)
+        {
+            Status status;
+            bool told;
+            var asked = new NavdLine { Way = way, Most = most, Quick = quick ? 1u : 0u };
+            Room<Link> links = line.Links;
+            Room<Turn> turns = line.Turns;
+            do
+            {
+                status = Native.navd_view_shortest(view, ref asked, links.Items, links.Length, turns.Items, turns.Length);
+                told = status == Status.Ok || status == Status.About;
+            } while (!links.Takes(told, asked.Links) | !turns.Takes(told, asked.Turns));
+            line.Upper = asked.Upper;
+            line.Lower = asked.Lower;
+            line.First = asked.First;
+            line.Last = asked.Last;
+            return status;
+        }
+
         /// <summary>The wall nearest to a place. Status.NoPlace: there is none within the reach.</summary>
         public Status NearestWall(Around around, ref Wall wall)
         {
@@ -1406,7 +1481,17 @@ namespace Navd
     /// <summary>A level with a row for each of its obstacles, whose id stays. What is shown changes in Update alone.</summary>
     public sealed class Registry : IDisposable
     {
-        internal readonly RegistryHandle registry = new RegistryHandle();
+        internal readonly RegistryHandle registry;
+
+        public Registry()
+        {
+            registry = new RegistryHandle();
+        }
+
+        internal Registry(RegistryHandle handle)
+        {
+            registry = handle;
+        }
 
         /// <summary>The level goes over into it, and holds nothing then. Status.Busy: it has obstacles.</summary>
         public Status Begin(Level level)
@@ -1453,6 +1538,44 @@ namespace Navd
         public Status Update(uint most, out Updated updated)
         {
             return Native.navd_registry_update(registry, most, out updated);
+        }
+
+        public Status Claim(Job job, out uint tile)
+        {
+            return Native.navd_registry_claim(registry, job.job, out tile);
+        }
+
+        public Status Submit(Job job)
+        {
+            return Native.navd_registry_submit(registry, job.job);
+        }
+
+        public Status PutBack(Job job)
+        {
+            return Native.navd_registry_put_back(registry, job.job);
+        }
+
+        public Status PutBackAll()
+        {
+            return Native.navd_registry_put_back_all(registry);
+        }
+
+        public Status Save(Room<byte> bytes)
+        {
+            Status status;
+            UIntPtr length;
+            do
+            {
+                status = Native.navd_registry_save(registry, bytes.Items, bytes.Length, out length);
+            } while (!bytes.Takes(status == Status.Ok || status == Status.NoRoom, length));
+            return status;
+        }
+
+        /// <summary>Status.NotSaved: no save wrote these bytes. Status.Foreign: it was saved of another field.</summary>
+        public Status Restore(byte[] bytes)
+        {
+            byte[] items = Given.Items(bytes, "bytes");
+            return Native.navd_registry_restore(registry, items, Given.Length(bytes));
         }
 
         public void Dispose()

@@ -133,6 +133,8 @@ namespace Navd
         [DllImport(Library)]
         internal static extern IntPtr navd_world_mesh(WorldHandle world);
         [DllImport(Library)]
+        internal static extern IntPtr navd_world_registry(WorldHandle world);
+        [DllImport(Library)]
         internal static extern Status navd_world_add(WorldHandle world, ref NavdShape shape, ulong user, out ulong id);
         [DllImport(Library)]
         internal static extern Status navd_world_move(WorldHandle world, ulong id, ref NavdShape shape);
@@ -144,6 +146,10 @@ namespace Navd
         internal static extern Status navd_world_remove(WorldHandle world, ulong id);
         [DllImport(Library)]
         internal static extern Status navd_world_obstacles(WorldHandle world, [Out] Row[] rows, UIntPtr room, out UIntPtr count);
+        [DllImport(Library)]
+        internal static extern Status navd_world_save(WorldHandle world, [Out] byte[] bytes, UIntPtr room, out UIntPtr length);
+        [DllImport(Library)]
+        internal static extern Status navd_world_restore(WorldHandle world, byte[] bytes, UIntPtr length);
         [DllImport(Library)]
         internal static extern Status navd_world_update(WorldHandle world, uint maxTiles, ref NavdProgress progress);
         [DllImport(Library)]
@@ -215,6 +221,25 @@ namespace Navd
         readonly SnapshotHandle owner;
 
         internal SnapshotViewHandle(SnapshotHandle owner) : base(NativeWorld.navd_snapshot_view(owner))
+        {
+            bool isHeld = false;
+            owner.DangerousAddRef(ref isHeld);
+            this.owner = owner;
+        }
+
+        protected override bool ReleaseHandle()
+        {
+            owner.DangerousRelease();
+            return true;
+        }
+    }
+
+    /// <summary>The registry that is in a world, which lives on as long.</summary>
+    internal sealed class WorldRegistryHandle : RegistryHandle
+    {
+        readonly WorldHandle owner;
+
+        internal WorldRegistryHandle(WorldHandle owner) : base(NativeWorld.navd_world_registry(owner))
         {
             bool isHeld = false;
             owner.DangerousAddRef(ref isHeld);
@@ -463,6 +488,12 @@ namespace Navd
             }
         }
 
+        /// <summary>Its registry, for jobs and what else Navd.cs has. It is disposed of by itself, and is in no call beside one of the world.</summary>
+        public Registry OpenRegistry()
+        {
+            return new Registry(new WorldRegistryHandle(world));
+        }
+
         public Status Add(Shape shape, ulong user, out ulong id)
         {
             using (var corners = new Pinned(shape.Corners))
@@ -507,6 +538,24 @@ namespace Navd
                 status = NativeWorld.navd_world_obstacles(world, rows.Items, rows.Length, out count);
             } while (!rows.Takes(status == Status.Ok, count));
             return status;
+        }
+
+        public Status Save(Room<byte> bytes)
+        {
+            Status status;
+            UIntPtr length;
+            do
+            {
+                status = NativeWorld.navd_world_save(world, bytes.Items, bytes.Length, out length);
+            } while (!bytes.Takes(status == Status.Ok || status == Status.NoRoom, length));
+            return status;
+        }
+
+        /// <summary>What was saved of a world of the same cells. Status.NotSaved: no save wrote these bytes. Status.Foreign: it was another one.</summary>
+        public Status Restore(byte[] bytes)
+        {
+            byte[] items = Given.Items(bytes, "bytes");
+            return NativeWorld.navd_world_restore(world, items, Given.Length(bytes));
         }
 
         public Status Update(uint maxTiles, out Progress progress)

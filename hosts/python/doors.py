@@ -13,6 +13,7 @@ from array import array
 from ctypes import Structure, sizeof
 
 import navd_world
+from navd import Job
 from navd_world import Box, Cylinder, Filter, NoRoute, Prism, World, WorldError, status_name
 
 FRAMES = 40
@@ -45,8 +46,8 @@ def tell_obstacles(world):
     print("obstacles:" + "".join(told))
 
 
-def tell_update(world):
-    it = world.update()
+def tell_update(world, *max_tiles):
+    it = world.update(*max_tiles)
     print(f"built {it.tiles_built} published {it.published:d} pending {it.pending:d} version {it.version}")
 
 
@@ -83,6 +84,37 @@ def change_obstacles(world):
     tell_update(world)
 
 
+def build_by_jobs(world):
+    """The tiles of a change are built in another thread, and shown by the next update."""
+    built = []
+
+    def work():
+        with Job() as job:
+            while job.claim(world.registry) is not None:
+                job.build()
+                built.append(job.submit(world.registry))
+
+    round_one = world.add(Cylinder((8, 1, 6), 0.5, 1))
+    tell_update(world, 0)
+    working = threading.Thread(target=work)
+    working.start()
+    working.join()
+    print(f"{len(built)} tiles by jobs")
+    tell_update(world, 0)
+    world.remove(round_one)
+    tell_update(world)
+
+
+def save_and_restore(world):
+    saved = world.save()
+    world.remove(2)
+    print(f"saved {len(saved)} bytes, less of them {end_of(lambda: world.restore(saved[:-1]))}")
+    tell_obstacles(world)
+    world.restore(saved)
+    tell_obstacles(world)
+    tell_update(world)
+
+
 def ask(snapshot):
     place, height = snapshot.nearest((18, 3, 6), 1, 4), snapshot.height((22, 9, 3))
     print(f"nearest:{points([place])}, height {height:.6f}, off the floor", end_of(lambda: snapshot.nearest((-9, 0, 6), 1, 4)),
@@ -96,7 +128,8 @@ def ask(snapshot):
     tell_route("partial", lambda: snapshot.find_path(START, (60, 0, 6), Filter(partial=True, areas=navd_world.all_areas & ~(1 << 5))))
     tell_route("nowhere", lambda: snapshot.find_path((-9, 0, 3), GOAL))
     tell_route("no number", lambda: snapshot.find_path((math.nan, 0, 3), GOAL))
-    print(f"a view of {snapshot.view.shown()[1]} tiles")
+    with snapshot.view.copy() as copy:
+        print(f"a view of {copy.shown()[1]} tiles")
 
 
 def tell_refused(triangles, **sizes):
@@ -112,6 +145,8 @@ def play_more(world, snapshot):
     it = world.mesh.setting
     print(it.width, it.depth, it.tile, it.height, it.climb, it.radius, "")
     change_obstacles(world)
+    build_by_jobs(world)
+    save_and_restore(world)
     snapshot.refresh()
     print("NAVD_OK" if snapshot.refresh() else "NAVD_SAME")
     asking = threading.Thread(target=ask, args=(snapshot,))

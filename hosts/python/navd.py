@@ -20,6 +20,8 @@ from pathlib import Path
 OK, NO_MEMORY, EMPTY, FAULTY, OUT_OF_RANGE, TOO_MANY, DEAD, HISTORY_FULL, NOT_YET, SAME, NO_START, NO_GOAL, NO_PATH, WALL, NO_ROOM, \
     STALE, FOREIGN, BUSY, TOO_MANY_SPANS, PARTIAL, LIMIT, CUT, NO_PLACE = range(23)
 NO_OBSTACLE = 24
+NOT_SAVED = 25
+ABOUT = 26
 
 # The version of the library that this file was written for, as major * 10000 + minor * 100 + patch.
 VERSION = 100
@@ -27,7 +29,7 @@ VERSION = 100
 NAMES = ("ok", "no memory", "empty handle", "faulty text", "number out of range", "too many obstacles", "no such obstacle", "history full",
          "a tile is awaited", "same as before", "no start", "no goal", "no path", "wall", "no room", "the build is wanted no more",
          "the job is of another ground", "the handle holds a job", "too many spans", "a way to the nearest place", "limit", "cut", "no place",
-         "unknown", "no obstacle with this id")
+         "unknown", "no obstacle with this id", "no save wrote these bytes")
 
 # All areas, as a filter's.
 all_areas = 2**64 - 1
@@ -131,6 +133,11 @@ class _Floor(Structure):
 
 class _Path(Structure):
     _fields_ = [("cost", c_uint64), ("first", _Polygon), ("links", c_size_t), ("turns", c_size_t)]
+
+
+class _Line(Structure):
+    _fields_ = [("way", _Way), ("most", c_uint32), ("quick", c_uint32), ("upper", c_uint64), ("lower", c_uint64), ("first", _Polygon), ("last", _Polygon),
+                ("links", c_size_t), ("turns", c_size_t)]
 
 
 class _Ray(Structure):
@@ -331,6 +338,18 @@ class Path_:
     first: Polygon
     links: list[Link]
     turns: list[Turn]
+
+
+@dataclass(frozen=True)
+class Line:
+    """A line that is not longer than upper; no line over the links of the mesh is shorter than lower. Both are in 65536ths of a cell."""
+    first: Polygon
+    last: Polygon
+    links: list[Link]
+    turns: list[Turn]
+    upper: int
+    lower: int
+    is_shortest: bool
 
 
 @dataclass(frozen=True)
@@ -559,6 +578,12 @@ def _library():
         "navd_registry_remove": [handle, c_uint64],
         "navd_registry_rows": [handle, POINTER(_Row), c_size_t, count],
         "navd_registry_update": [handle, c_uint32, POINTER(_Updated)],
+        "navd_registry_claim": [handle, handle, number],
+        "navd_registry_submit": [handle, handle],
+        "navd_registry_put_back": [handle, handle],
+        "navd_registry_put_back_all": [handle],
+        "navd_registry_save": [handle, POINTER(c_uint8), c_size_t, count],
+        "navd_registry_restore": [handle, POINTER(c_uint8), c_size_t],
         "navd_registry_look": [handle, handle, POINTER(c_uint64)],
         "navd_prepare": [handle],
         "navd_add_block": [handle, POINTER(_Block), c_uint32, number],
@@ -576,7 +601,9 @@ def _library():
         "navd_cast_ray": [handle, POINTER(_Way), POINTER(_Ray)],
         "navd_count": [handle, POINTER(_Counts)],
         "navd_look": [handle, handle, number],
+        "navd_view_copy": [handle, handle],
         "navd_view_floors": [handle, c_uint32, c_uint32, POINTER(_Floor), c_size_t, POINTER(c_size_t)],
+        "navd_view_shortest": [handle, POINTER(_Line), POINTER(_Link), c_size_t, POINTER(_Turn), c_size_t],
         "navd_view_find_path": [handle, POINTER(_Way), POINTER(_Link), c_size_t, POINTER(_Turn), c_size_t, POINTER(_Path)],
         "navd_view_cast_ray": [handle, POINTER(_Way), POINTER(_Ray)],
         "navd_view_check_path": [handle, POINTER(_Kept), number, c_size_t, POINTER(_Link), c_size_t, POINTER(_Turn), c_size_t],
@@ -716,6 +743,19 @@ def _all(kind, call):
         if count.value <= len(room):
             return room[:count.value]
         room = (kind * count.value)()
+
+
+def _bytes(given):
+    """Bytes that a call reads, which have an address also where there are none."""
+    return (c_uint8 * max(1, len(given))).from_buffer_copy(given or b"\0")
+
+
+def _saved(call):
+    """What a call saves that lays it into a room, or says that there is too little."""
+    def told(*room):
+        status = call(*room)
+        return OK if status == NO_ROOM else status  # how many bytes there are was told, and _all asks once more
+    return bytes(_all(c_uint8, told))
 
 
 class _Asked:
@@ -925,6 +965,8 @@ class Registry:
     """The level of a Level without obstacles, which holds nothing then, with a Row for each obstacle, whose id stays. What is shown changes in `update` alone.
     It is used by one thread at a time."""
 
+    _names = "navd_registry_"
+
     def __init__(self, level):
         self._calls, self._handle = _library(), _Handle()
         self._do("begin", byref(level._handle))
@@ -974,6 +1016,18 @@ class Registry:
         self._do("update", most, byref(told))
         return Updated(told.built, bool(told.published), bool(told.pending), told.version)
 
+    def put_back_all(self):
+        """Ends all claims."""
+        self._do("put_back_all")
+
+    def save(self):
+        """The obstacles as bytes: their ids, numbers and shapes, which are on, the last id and the version."""
+        return _saved(lambda *room: self._calls.navd_registry_save(byref(self._handle), *room))
+
+    def restore(self, saved):
+        """Puts the obstacles that were saved in the place of all others; what is shown stays until an update."""
+        self._do("restore", _bytes(saved), len(saved))
+
 
 class View(_Asked):
     """What one thread asks while another changes the level: the mesh as it was published at the last look."""
@@ -998,6 +1052,14 @@ class View(_Asked):
         if status:
             raise NavdError(status)
         return version.value
+
+    def copy(self):
+        """A further View of what it shows, with its costs, for another thread."""
+        made = View()
+        status = self._calls.navd_view_copy(byref(made._handle), byref(self._handle))
+        if status:
+            raise NavdError(status)
+        return made
 
     def set_costs(self, costs):
         """Has it answer with costs of its own, 64 numbers by area, from now on."""
@@ -1179,6 +1241,22 @@ class View(_Asked):
             raise NavdError(status)
         return _mesh_place(end)
 
+    def shortest(self, start, goal, most=1000000, quick=False):
+        """A Line between two Places by its length, whatever areas cost, or a NoPath. Its search ends after so many records, of about 100 bytes each; a quick
+        one passes over ends of portals that the mesh surrounds."""
+        line = _Line(_way(start, goal), most, quick)
+        while True:
+            status = self._calls.navd_view_shortest(byref(self._handle), byref(line), self._links, len(self._links), self._turns, len(self._turns))
+            if status in (NO_START, NO_GOAL, NO_PATH):
+                return NoPath(status)
+            if status not in (OK, ABOUT):
+                raise NavdError(status)
+            if line.links <= len(self._links) and line.turns <= len(self._turns):
+                break
+            self._links, self._turns = (_Link * max(1, line.links))(), (_Turn * max(1, line.turns))()
+        return Line(_polygon(line.first), _polygon(line.last), [_link(it) for it in self._links[:line.links]],
+                    [_turn(it) for it in self._turns[:line.turns]], line.upper, line.lower, status == OK)
+
     def nearest_wall(self, place, reach, areas=all_areas):
         """The WallPart nearest to a MeshPlace, within a reach in sixteenths; None where there is none, or a NoPath, where the place is none of the mesh."""
         wall = _Wall()
@@ -1211,7 +1289,7 @@ class View(_Asked):
 
 
 class Job:
-    """A tile that is claimed of a level, and built on any thread. `claim`, `submit` and `put_back` are calls of both."""
+    """A tile that is claimed of a Level or a Registry, and built on any thread. `claim`, `submit` and `put_back` are calls of both."""
 
     def __init__(self):
         self._calls, self._handle, self.tile = _library(), _Handle(), None
@@ -1222,10 +1300,10 @@ class Job:
     def __exit__(self, *_):
         self.close()
 
-    def claim(self, level):
+    def claim(self, owner):
         """The tile that is to be built, or None where none is awaited that is not claimed."""
         tile = c_uint32()
-        status = self._calls.navd_claim(byref(level._handle), byref(self._handle), byref(tile))
+        status = getattr(self._calls, owner._names + "claim")(byref(owner._handle), byref(self._handle), byref(tile))
         if status not in (OK, SAME):
             raise NavdError(status)
         self.tile = tile.value if status == OK else None
@@ -1236,16 +1314,16 @@ class Job:
         if status not in (OK, SAME):
             raise NavdError(status)
 
-    def submit(self, level):
+    def submit(self, owner):
         """Whether the build was still wanted."""
-        status = self._calls.navd_submit(byref(level._handle), byref(self._handle))
+        status = getattr(self._calls, owner._names + "submit")(byref(owner._handle), byref(self._handle))
         if status not in (OK, STALE):
             raise NavdError(status)
         self.tile = None
         return status == OK
 
-    def put_back(self, level):
-        status = self._calls.navd_put_back(byref(level._handle), byref(self._handle))
+    def put_back(self, owner):
+        status = getattr(self._calls, owner._names + "put_back")(byref(owner._handle), byref(self._handle))
         if status:
             raise NavdError(status)
         self.tile = None

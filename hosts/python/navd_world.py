@@ -83,12 +83,15 @@ def _library():
         ("navd_world_create", [POINTER(_WorldDef), POINTER(_TriangleMesh), POINTER(held), POINTER(_Problem)], c_uint32),
         ("navd_world_destroy", [held], None),
         ("navd_world_mesh", [held], POINTER(navd._Mesh)),
+        ("navd_world_registry", [held], POINTER(navd._Handle)),
         ("navd_world_add", [held, POINTER(_Shape), c_uint64, POINTER(c_uint64)], c_uint32),
         ("navd_world_move", [held, c_uint64, POINTER(_Shape)], c_uint32),
         ("navd_world_set_enabled", [held, c_uint64, c_int], c_uint32),
         ("navd_world_set_user", [held, c_uint64, c_uint64], c_uint32),
         ("navd_world_remove", [held, c_uint64], c_uint32),
         ("navd_world_obstacles", [held, POINTER(navd._Row), c_size_t, POINTER(c_size_t)], c_uint32),
+        ("navd_world_save", [held, POINTER(c_uint8), c_size_t, POINTER(c_size_t)], c_uint32),
+        ("navd_world_restore", [held, POINTER(c_uint8), c_size_t], c_uint32),
         ("navd_world_update", [held, c_uint32, POINTER(_Progress)], c_uint32),
         ("navd_snapshot_create", [held, c_uint32, POINTER(held)], c_uint32),
         ("navd_snapshot_refresh", [held, held], c_uint32),
@@ -308,12 +311,24 @@ class _Owner:
         return self._at
 
 
+class _WorldRegistry(navd.Registry):
+    """The registry that is in a world, and is closed with it."""
+
+    def __init__(self, handle, world):
+        self._calls, self._handle, self._world = navd._library(), handle, world
+
+    def close(self):
+        self._handle = navd._Handle()
+
+
 class World(_Owner):
     """A world of triangles, all of it built, without obstacles. What is shown changes in `update` alone.
 
     `vertices` are of the shape (n, 3), `triangles` of the shape (m, 3); `areas`, m numbers of 0 to 63, or None for 63 each; `bounds` is two points, (least,
     greatest), or None for as far as the triangles reach; `flags` are BOTH_SIDES, STRIPS, NO_CLEARANCE, added. A WorldError has a sentence that says
     what is wrong."""
+
+    _registry = None
 
     def __init__(self, vertices, triangles, areas=None, *, cell_size=0.3, cell_height=0.2, agent_radius=0.6, agent_height=2.0, agent_climb=0.9, max_slope=45,
                  max_error=0.7, tile_cells=48, max_obstacles=1024, flags=0, bounds=None, area_costs=None):
@@ -334,6 +349,8 @@ class World(_Owner):
 
     def close(self):
         """Ends it; snapshots of it stay good."""
+        if self._registry:
+            self._registry.close()
         if self._at:
             self._calls.navd_world_destroy(self._at)
             self._at = None
@@ -342,6 +359,13 @@ class World(_Owner):
     def mesh(self):
         """What the numbers became, in cells and height units, as navd_mesh has them: `frame`, `slope` and `setting`."""
         return navd._Mesh.from_buffer_copy(self._calls.navd_world_mesh(self._held()).contents)
+
+    @property
+    def registry(self):
+        """Its navd.Registry, for jobs and what else navd.py has; it ends with the world."""
+        if not self._registry:
+            self._registry = _WorldRegistry(self._calls.navd_world_registry(self._held()).contents, self)
+        return self._registry
 
     def add(self, shape, user=0):
         """The id of an obstacle, which is on: a Box, a Cylinder or a Prism, with a number of the host's own."""
@@ -367,6 +391,14 @@ class World(_Owner):
         """The obstacles by rising ids, as navd.Row: in sixteenths of a cell and height units of navd_world_mesh."""
         rows = navd._all(navd._Row, lambda *room: self._calls.navd_world_obstacles(self._held(), *room))
         return [navd.Row(it.id, it.user, bool(it.enabled), it.solid.area, navd._solid_shape(it.solid)) for it in rows]
+
+    def save(self):
+        """The obstacles as bytes: their ids, numbers and shapes, which are on, the last id and the version."""
+        return navd._saved(lambda *room: self._calls.navd_world_save(self._held(), *room))
+
+    def restore(self, saved):
+        """Puts the obstacles that were saved, of a world of the same cells, in the place of all others; what is shown stays until an update."""
+        _done(self._calls.navd_world_restore(self._held(), navd._bytes(saved), len(saved)))
 
     def update(self, max_tiles=ALL_TILES):
         """Builds at most so many tiles of what was asked for, and shows it once all of it is built: a Progress."""

@@ -137,11 +137,17 @@ typedef struct {
     size_t costs_count;
 } scales;
 
+enum { MOST_LEFT = 16 };
+
+/* A world is in one call at a time. Meanwhile snapshots of other threads copy what it shows: the lock is on that. */
 struct navd_world {
     navd_registry registry;
-    pthread_mutex_t next, lock; /* whose turn is next, and on the registry */
-    atomic_uint_fast64_t version;
     scales scales;
+    pthread_mutex_t lock;
+    navd_view shown;
+    atomic_uint_fast64_t version; /* of what is shown */
+    size_t left_count;
+    navd_view left[MOST_LEFT]; /* what snapshots showed before they were refreshed */
 };
 
 /* The numbers of a definition as a mesh's, but for its field; what is wrong with them, or NULL. A floor is a unit thick and lies on its triangles, so that
@@ -242,6 +248,24 @@ static navd_status make(navd_world *world, const navd_world_def *def, const navd
     return status;
 }
 
+/* Shows what the registry shows, and lets go of what was shown before, and of what snapshots have left. */
+static navd_status show(navd_world *world) {
+    navd_view fresh = {0}, before[1 + MOST_LEFT];
+    uint64_t version;
+    navd_status status = navd_registry_look(&fresh, &world->registry, &version);
+    if (status != NAVD_OK) return status;
+    pthread_mutex_lock(&world->lock);
+    size_t count = 1 + world->left_count;
+    before[0] = world->shown;
+    memcpy(before + 1, world->left, world->left_count * sizeof *before);
+    world->shown = fresh;
+    world->left_count = 0;
+    atomic_store(&world->version, version);
+    pthread_mutex_unlock(&world->lock);
+    for (size_t i = 0; i < count; i++) navd_view_close(&before[i]);
+    return NAVD_OK;
+}
+
 navd_status navd_world_create(const navd_world_def *def, const navd_triangle_mesh *mesh, navd_world **world, navd_problem *problem) {
     navd_world_def asked = NAVD_WORLD_DEF;
     navd_triangle_mesh given = {.size = sizeof given};
@@ -249,19 +273,18 @@ navd_status navd_world_create(const navd_world_def *def, const navd_triangle_mes
     if (problem && !has_size(problem, PROBLEM_SIZE)) return NAVD_BAD_STRUCT;
     navd_world *made = take(1, sizeof *made);
     if (!made) return NAVD_NO_MEMORY;
+    pthread_mutex_init(&made->lock, NULL); /* of this kind Linux refuses none */
+    atomic_init(&made->version, 0);
     navd_status status = read_struct(&asked, sizeof asked, DEF_SIZE, def);
     if (status == NAVD_OK) status = read_struct(&given, sizeof given, MESH_SIZE, mesh);
     if (status == NAVD_OK && asked.flags > 7) status = NAVD_BAD_STRUCT;
     if (status == NAVD_OK) status = make(made, &asked, &given, &told);
+    if (status == NAVD_OK) status = show(made);
     if (status == NAVD_OK) {
-        pthread_mutex_init(&made->next, NULL); /* of this kind Linux refuses none */
-        pthread_mutex_init(&made->lock, NULL);
-        atomic_init(&made->version, 0);
         *world = made;
         return NAVD_OK;
     }
-    navd_registry_close(&made->registry);
-    give_back(made);
+    navd_world_destroy(made);
     if (!told.text[0]) snprintf(told.text, sizeof told.text, "%s", navd_status_text(status));
     if (problem) write_struct(problem, &told, sizeof told);
     return status;
@@ -270,13 +293,18 @@ navd_status navd_world_create(const navd_world_def *def, const navd_triangle_mes
 void navd_world_destroy(navd_world *world) {
     if (!world) return;
     navd_registry_close(&world->registry);
+    navd_view_close(&world->shown);
+    for (size_t i = 0; i < world->left_count; i++) navd_view_close(&world->left[i]);
     pthread_mutex_destroy(&world->lock);
-    pthread_mutex_destroy(&world->next);
     give_back(world);
 }
 
 const navd_mesh *navd_world_mesh(const navd_world *world) {
     return &world->scales.mesh;
+}
+
+navd_registry *navd_world_registry(navd_world *world) {
+    return &world->registry;
 }
 
 /* == Obstacles == */
@@ -366,67 +394,54 @@ static navd_status read_shape(const scales *scales, const navd_shape *given, nav
     return shape.kind == NAVD_CYLINDER ? read_disc(scales, &shape, &solid->disc) : read_base(scales, &shape, &solid->prism);
 }
 
-/* Around each call of the registry, as snapshots are taken of it in other threads. Who waits comes in before who was in. */
-static void enter(navd_world *world) {
-    pthread_mutex_lock(&world->next);
-    pthread_mutex_lock(&world->lock);
-    pthread_mutex_unlock(&world->next);
-}
-
-static navd_status leave(navd_world *world, navd_status status) {
-    pthread_mutex_unlock(&world->lock);
-    return status;
-}
-
 navd_status navd_world_add(navd_world *world, const navd_shape *shape, uint64_t user, navd_obstacle_id *id) {
     navd_solid solid;
     navd_status status = read_shape(&world->scales, shape, &solid);
-    if (status != NAVD_OK) return status;
-    enter(world);
-    return leave(world, navd_registry_add(&world->registry, &solid, user, id));
+    return status == NAVD_OK ? navd_registry_add(&world->registry, &solid, user, id) : status;
 }
 
 navd_status navd_world_move(navd_world *world, navd_obstacle_id id, const navd_shape *shape) {
     navd_solid solid;
     navd_status status = read_shape(&world->scales, shape, &solid);
-    if (status != NAVD_OK) return status;
-    enter(world);
-    return leave(world, navd_registry_move(&world->registry, id, &solid));
+    return status == NAVD_OK ? navd_registry_move(&world->registry, id, &solid) : status;
 }
 
 navd_status navd_world_set_enabled(navd_world *world, navd_obstacle_id id, int enabled) {
-    enter(world);
-    return leave(world, navd_registry_enable(&world->registry, id, enabled != 0));
+    return navd_registry_enable(&world->registry, id, enabled != 0);
 }
 
 navd_status navd_world_set_user(navd_world *world, navd_obstacle_id id, uint64_t user) {
-    enter(world);
-    return leave(world, navd_registry_mark(&world->registry, id, user));
+    return navd_registry_mark(&world->registry, id, user);
 }
 
 navd_status navd_world_remove(navd_world *world, navd_obstacle_id id) {
-    enter(world);
-    return leave(world, navd_registry_remove(&world->registry, id));
+    return navd_registry_remove(&world->registry, id);
 }
 
 navd_status navd_world_obstacles(navd_world *world, navd_row *rows, size_t room, size_t *count) {
-    enter(world);
-    return leave(world, navd_registry_rows(&world->registry, rows, room, count));
+    return navd_registry_rows(&world->registry, rows, room, count);
 }
 
-/* One tile after the other, so that who takes a snapshot waits for one at most. */
+navd_status navd_world_save(navd_world *world, uint8_t *bytes, size_t room, size_t *length) {
+    return navd_registry_save(&world->registry, bytes, room, length);
+}
+
+/* The version is another one then, which is shown; where memory for that is refused, the next update does it. */
+navd_status navd_world_restore(navd_world *world, const uint8_t *bytes, size_t length) {
+    navd_status status = navd_registry_restore(&world->registry, bytes, length);
+    if (status == NAVD_OK) (void)show(world);
+    return status;
+}
+
+/* What is published is shown here, and where memory for that is refused by the next update. */
 navd_status navd_world_update(navd_world *world, uint32_t max_tiles, navd_progress *progress) {
-    navd_progress told = {.size = sizeof told};
-    navd_status status;
+    navd_updated done;
     if (progress && !has_size(progress, PROGRESS_SIZE)) return NAVD_BAD_STRUCT;
-    for (navd_updated one;;) {
-        enter(world);
-        status = navd_registry_update(&world->registry, max_tiles ? 1 : 0, &one);
-        if (status == NAVD_OK) atomic_store(&world->version, one.version); /* inside, so that no snapshot is ahead of it */
-        if (leave(world, status) != NAVD_OK) return status;
-        told = (navd_progress){sizeof told, told.tiles_built + one.built, one.published, one.pending, one.version};
-        if (!one.built || one.published || told.tiles_built >= max_tiles) break;
-    }
+    navd_status status = navd_registry_update(&world->registry, max_tiles, &done);
+    if (status != NAVD_OK) return status;
+    bool is_new = done.version != atomic_load(&world->version);
+    if (is_new && (status = show(world)) != NAVD_OK) return status;
+    navd_progress told = {sizeof told, done.built, is_new, done.pending, done.version};
     if (progress) write_struct(progress, &told, sizeof told);
     return NAVD_OK;
 }
@@ -439,25 +454,15 @@ struct navd_snapshot {
     scales scales;
 };
 
-/* Takes what the world shows now. What was shown before is let go outside of the lock. */
-static navd_status look(navd_snapshot *snapshot, navd_world *world) {
-    navd_view fresh = {0};
-    uint64_t version;
-    enter(world);
-    navd_status status = leave(world, navd_registry_look(&fresh, &world->registry, &version));
-    if (status != NAVD_OK) return status;
-    navd_view_close(&snapshot->view);
-    snapshot->view = fresh;
-    snapshot->version = version;
-    return NAVD_OK;
-}
-
 navd_status navd_snapshot_create(navd_world *world, uint32_t agent, navd_snapshot **snapshot) {
     if (agent != 0) return NAVD_OUT_OF_RANGE;
     navd_snapshot *made = take(1, sizeof *made);
     if (!made) return NAVD_NO_MEMORY;
     made->scales = world->scales;
-    navd_status status = look(made, world);
+    pthread_mutex_lock(&world->lock);
+    navd_status status = navd_view_copy(&made->view, &world->shown);
+    made->version = atomic_load(&world->version);
+    pthread_mutex_unlock(&world->lock);
     if (status != NAVD_OK)
         give_back(made);
     else
@@ -465,8 +470,20 @@ navd_status navd_snapshot_create(navd_world *world, uint32_t agent, navd_snapsho
     return status;
 }
 
+/* What it showed may be the last share of a mesh: that goes with the world's next update, so that no reader waits for it. */
 navd_status navd_snapshot_refresh(navd_snapshot *snapshot, navd_world *world) {
-    return atomic_load(&world->version) == snapshot->version ? NAVD_SAME : look(snapshot, world);
+    if (atomic_load(&world->version) == snapshot->version) return NAVD_SAME;
+    navd_view fresh = {0}, before = {0};
+    pthread_mutex_lock(&world->lock);
+    navd_status status = navd_view_copy(&fresh, &world->shown);
+    if (status == NAVD_OK) {
+        *(world->left_count < MOST_LEFT ? &world->left[world->left_count++] : &before) = snapshot->view;
+        snapshot->view = fresh;
+        snapshot->version = atomic_load(&world->version);
+    }
+    pthread_mutex_unlock(&world->lock);
+    navd_view_close(&before);
+    return status;
 }
 
 uint64_t navd_snapshot_version(const navd_snapshot *snapshot) {
@@ -512,7 +529,7 @@ static navd_status read_filter(const navd_snapshot *snapshot, const navd_filter 
     navd_filter filter = NAVD_FILTER;
     if (given && read_struct(&filter, sizeof filter, FILTER_SIZE, given) != NAVD_OK) return NAVD_BAD_STRUCT;
     if (filter.partial > 1) return NAVD_BAD_STRUCT;
-    memset(asked, 0, sizeof *asked);
+    asked->plan = (navd_plan){0};
     asked->costs = filter.area_costs ? asked->own : scales->costs;
     asked->costs_count = filter.area_costs ? AREAS : scales->costs_count;
     if (filter.area_costs && !read_costs(asked->own, filter.area_costs)) return NAVD_OUT_OF_RANGE;
@@ -627,11 +644,13 @@ navd_status navd_snapshot_raycast(navd_snapshot *snapshot, const navd_vec3 *from
 
 enum { FIRST_ROOM = 64 };
 
-/* What a search writes, and its corners: as many as its turns and two more at most. */
+/* What a search writes, and its corners: as many as its turns and two more at most; in the library's numbers, in the game's, and with flags. */
 struct navd_route {
     size_t room, count;
     navd_link *links;
     navd_turn *turns;
+    navd_frame_place *places;
+    navd_vec3 *points;
     navd_route_corner *corners;
     double cost;
     uint64_t version;
@@ -647,6 +666,8 @@ navd_status navd_route_create(navd_route **route) {
 static void let_go(navd_route *route) {
     give_back(route->links);
     give_back(route->turns);
+    give_back(route->places);
+    give_back(route->points);
     give_back(route->corners);
     *route = (navd_route){0};
 }
@@ -662,8 +683,10 @@ static navd_status make_room(navd_route *route, size_t wanted) {
     let_go(route);
     route->links = take(wanted, sizeof *route->links);
     route->turns = take(wanted, sizeof *route->turns);
+    route->places = take(wanted + 2, sizeof *route->places);
+    route->points = take(wanted + 2, sizeof *route->points);
     route->corners = take(wanted + 2, sizeof *route->corners);
-    if (!route->links || !route->turns || !route->corners) return NAVD_NO_MEMORY;
+    if (!route->links || !route->turns || !route->places || !route->points || !route->corners) return NAVD_NO_MEMORY;
     route->room = wanted;
     return NAVD_OK;
 }
@@ -682,32 +705,44 @@ static navd_status search(navd_snapshot *snapshot, navd_route *route, question *
 }
 
 /* A corner of a way in a polygon, on the floor there; `y` is the height of the one before. */
-static navd_status lay_corner(navd_snapshot *snapshot, navd_polygon polygon, navd_point at, uint32_t *y, navd_vec3 *corner) {
+static navd_status find_corner(navd_snapshot *snapshot, navd_polygon polygon, navd_point at, uint32_t *y, navd_frame_place *corner) {
     navd_place place = {polygon, at, *y};
-    size_t turned;
     navd_status status = navd_view_height(&snapshot->view, &place);
     if (status != NAVD_OK && status != NAVD_NO_PLACE) return status;
     if (status == NAVD_OK) *y = place.y;
-    navd_frame_place told = place_of(at, *y);
-    return navd_dequantize(&snapshot->scales.mesh.frame, &told, 1, corner, 1, &turned);
+    *corner = place_of(at, *y);
+    return NAVD_OK;
 }
 
-/* The corners of a way. Where it turns at one point round several edges that is one corner. */
-static navd_status lay_corners(navd_snapshot *snapshot, navd_route *route, const navd_plan *plan) {
+static bool is_same_place(const navd_frame_place *a, const navd_frame_place *b) {
+    return a->x == b->x && a->y == b->y && a->z == b->z;
+}
+
+/* The corners of a way; how many there are is left at `count`. Where it turns at one point round several edges that is one corner. */
+static navd_status find_corners(navd_snapshot *snapshot, navd_route *route, const navd_plan *plan, size_t *count) {
     uint32_t y = plan->way.from_y;
-    navd_route_corner *corners = route->corners;
-    size_t count = 1;
-    navd_status status = lay_corner(snapshot, plan->first, plan->way.from, &y, &corners[0].at);
-    for (size_t i = 0; status == NAVD_OK && i <= plan->turns; i++) {
-        bool is_end = i == plan->turns;
+    navd_frame_place *places = route->places;
+    navd_status status = find_corner(snapshot, plan->first, plan->way.from, &y, places);
+    *count = 1;
+    for (size_t i = 0; status == NAVD_OK && i < plan->turns; i++) {
         const navd_turn *turn = &route->turns[i];
-        status = lay_corner(snapshot, is_end ? plan->last : route->links[turn->link].to, is_end ? plan->end : turn->at, &y, &corners[count].at);
-        corners[count].flags = is_end ? NAVD_ROUTE_END : 0;
-        count += is_end || memcmp(&corners[count].at, &corners[count - 1].at, sizeof corners->at) != 0;
+        status = find_corner(snapshot, route->links[turn->link].to, turn->at, &y, &places[*count]);
+        *count += !is_same_place(&places[*count], &places[*count - 1]);
     }
-    corners[0].flags = NAVD_ROUTE_START;
-    route->count = status == NAVD_OK ? count : 0;
+    if (status == NAVD_OK) status = find_corner(snapshot, plan->last, plan->end, &y, &places[(*count)++]);
     return status;
+}
+
+static navd_status lay_corners(navd_snapshot *snapshot, navd_route *route, const navd_plan *plan) {
+    size_t count, turned;
+    navd_status status = find_corners(snapshot, route, plan, &count);
+    if (status == NAVD_OK) status = navd_dequantize(&snapshot->scales.mesh.frame, route->places, count, route->points, count, &turned);
+    if (status != NAVD_OK) return status;
+    for (size_t i = 0; i < count; i++) route->corners[i] = (navd_route_corner){route->points[i], 0};
+    route->corners[0].flags = NAVD_ROUTE_START;
+    route->corners[count - 1].flags = NAVD_ROUTE_END;
+    route->count = count;
+    return NAVD_OK;
 }
 
 navd_status navd_snapshot_find_path(navd_snapshot *snapshot, const navd_filter *filter, const navd_vec3 *from, const navd_vec3 *to, navd_route *route) {
@@ -752,7 +787,7 @@ static const char *const statuses[][2] = {
     {"NAVD_TOO_MANY_SPANS", "the triangles give more than 2000000 spans"}, {"NAVD_PARTIAL", "the way leads to the nearest place that is reached"},
     {"NAVD_LIMIT", "no walk joins the two places within the limits"}, {"NAVD_CUT", "the path leads on in part"},
     {"NAVD_NO_PLACE", "no place is in reach"}, {"NAVD_BAD_STRUCT", "a struct is too short, or says what this library does not know"},
-    {"NAVD_NO_OBSTACLE", "no obstacle has this id"},
+    {"NAVD_NO_OBSTACLE", "no obstacle has this id"}, {"NAVD_NOT_SAVED", "no save wrote these bytes"},
 };
 
 const char *navd_status_text(navd_status status) {

@@ -189,6 +189,34 @@ static void try_refused_shapes(void) {
     navd_world_destroy(world);
 }
 
+/* == Saves == */
+
+static void try_saves(void) {
+    navd_world_def fewer = coarse();
+    fewer.max_obstacles = 7;
+    navd_world *world = made(coarse()), *other = made(fewer);
+    const navd_shape box = {.size = sizeof box, .kind = NAVD_BOX, .center = {10, 1, 10}, .half = {1, 1, 0.125f}};
+    uint8_t bytes[512], again[512];
+    size_t length = 0;
+    navd_obstacle_id id;
+    navd_snapshot *snapshot = NULL;
+    WANT(navd_world_save(world, bytes, 47, &length) == NAVD_NO_ROOM && length == 48);
+    WANT(navd_world_add(world, &box, 1, &id) == NAVD_OK && navd_world_add(world, &box, 2, &id) == NAVD_OK);
+    WANT(navd_world_set_enabled(world, 1, 0) == NAVD_OK && navd_world_save(world, bytes, sizeof bytes, &length) == NAVD_OK);
+    WANT(length == 48 + 2 * 84 + 4 && navd_world_restore(world, bytes, length - 1) == NAVD_NOT_SAVED);
+    WANT(navd_world_restore(other, bytes, length) == NAVD_FOREIGN && navd_world_add(other, &box, 0, &id) == NAVD_OK && id == 1);
+    WANT(navd_world_update(world, NAVD_ALL_TILES, NULL) == NAVD_OK && navd_snapshot_create(world, 0, &snapshot) == NAVD_OK);
+    WANT(navd_world_remove(world, 2) == NAVD_OK && navd_world_restore(world, bytes, length) == NAVD_OK);
+    WANT(navd_snapshot_version(snapshot) == 1 && navd_snapshot_refresh(snapshot, world) == NAVD_OK && navd_snapshot_version(snapshot) == 2);
+    WANT(navd_snapshot_refresh(snapshot, world) == NAVD_SAME && navd_world_set_enabled(world, 1, 0) == NAVD_SAME);
+    WANT(navd_world_save(world, again, sizeof again, &length) == NAVD_OK && again[32] == 2);
+    again[32] = bytes[32];
+    WANT(!memcmp(bytes, again, length) && navd_world_add(world, &box, 3, &id) == NAVD_OK && id == 3);
+    navd_snapshot_destroy(snapshot);
+    navd_world_destroy(other);
+    navd_world_destroy(world);
+}
+
 /* == Questions == */
 
 static void try_questions(void) {
@@ -237,8 +265,12 @@ static navd_status play(void) {
     const navd_vec3 from = {2, 0, 2}, to = {20, 0, 25};
     const navd_shape box = {.size = sizeof box, .kind = NAVD_BOX, .center = {10, 1, 12}, .half = {3, 1, 1}, .yaw = 1};
     navd_problem problem = {.size = sizeof problem};
+    uint8_t bytes[136];
+    size_t length;
     navd_status status = navd_world_create(&def, &square, &world, &problem);
     if (status == NAVD_OK) status = navd_world_add(world, &box, 0, &id);
+    if (status == NAVD_OK) status = navd_world_save(world, bytes, sizeof bytes, &length);
+    if (status == NAVD_OK) status = navd_world_restore(world, bytes, length);
     if (status == NAVD_OK) status = navd_world_update(world, NAVD_ALL_TILES, NULL);
     if (status == NAVD_OK) status = navd_snapshot_create(world, 0, &snapshot);
     if (status == NAVD_OK) status = navd_route_create(&route);
@@ -256,6 +288,7 @@ int main(void) {
     try_agents();
     try_shapes();
     try_refused_shapes();
+    try_saves();
     try_questions();
     requests = 0;
     WANT(play() == NAVD_OK);

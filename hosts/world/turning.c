@@ -13,6 +13,7 @@
 #include <stdbool.h>
 #include <stdio.h>
 #include <stdlib.h>
+#include <string.h>
 
 #include "navd_world.h"
 #include "../c/common.h"
@@ -110,6 +111,28 @@ static void change(navd_world *world, door *it, uint64_t *seed, navd_obstacle_id
     if (status == NAVD_OK) *it = wish;
 }
 
+/* What was saved, and the doors of then. */
+static struct {
+    uint8_t bytes[48 + 88 * DOORS];
+    size_t length;
+    door doors[DOORS];
+} saved;
+
+/* Saves the doors, or brings back those that were saved; whether it did that, which is a version. */
+static bool save_or_restore(navd_world *world, uint64_t *seed) {
+    size_t length;
+    bool saves = pick_by(seed, 2) || !saved.length;
+    navd_status status = saves ? navd_world_save(world, saved.bytes, sizeof saved.bytes, &length) : navd_world_restore(world, saved.bytes, saved.length);
+    want(status == NAVD_OK || status == NAVD_NO_MEMORY || (!saves && status == NAVD_HISTORY_FULL), "a saving");
+    if (status != NAVD_OK) {
+        if (saves) saved.length = 0;
+        return false;
+    }
+    if (saves) saved.length = length;
+    memcpy(saves ? saved.doors : doors, saves ? doors : saved.doors, sizeof doors);
+    return !saves;
+}
+
 static void compare_rows(navd_world *world) {
     navd_row rows[DOORS];
     size_t count, mine = 0;
@@ -204,6 +227,7 @@ int main(int argc, char **words) {
     for (long i = 0; i < frames; i++) {
         refusing = pick_by(&seed, 4) ? 0 : seed | 1;
         change(world, &doors[pick_by(&seed, DOORS)], &seed, &last);
+        if (!pick_by(&seed, 8) && save_or_restore(world, &seed)) progress.version = ++version;
         navd_status status = navd_world_update(world, pick_by(&seed, 4), &progress);
         refusing = 0;
         want(status == NAVD_OK || status == NAVD_NO_MEMORY, "an update");

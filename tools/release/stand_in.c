@@ -96,6 +96,14 @@ uint32_t navd_registry_look(navd_view *view, navd_registry *registry, uint64_t *
     return NAVD_OK;
 }
 
+uint32_t navd_view_copy(navd_view *to, navd_view *from) {
+    navd_tried got = to->full ? (navd_tried){true, to->at} : rattle_alloc(sizeof(uint64_t), 8);
+    if (!got.ok) return NAVD_NO_MEMORY;
+    *to = (navd_view){got.block, 1};
+    memcpy(to->at, from->at, sizeof(uint64_t));
+    return NAVD_OK;
+}
+
 void navd_view_close(navd_view *view) {
     if (view->full) rattle_dealloc(view->at);
     *view = (navd_view){0};

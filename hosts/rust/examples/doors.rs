@@ -65,8 +65,8 @@ fn tell_obstacles(world: &mut World) -> Result<(), Error> {
     Ok(())
 }
 
-fn tell_update(world: &mut World) -> Result<(), Error> {
-    let it = world.update(ALL_TILES)?;
+fn tell_update(world: &mut World, max_tiles: u32) -> Result<(), Error> {
+    let it = world.update(max_tiles)?;
     println!("built {} published {} pending {} version {}", it.tiles_built, u32::from(it.published), u32::from(it.pending), it.version);
     Ok(())
 }
@@ -74,6 +74,7 @@ fn tell_update(world: &mut World) -> Result<(), Error> {
 fn name_of(error: &Error) -> &'static str {
     match error {
         Error::NoSuchObstacle => "NAVD_NO_OBSTACLE",
+        Error::NotSaved => "NAVD_NOT_SAVED",
         Error::OutOfRange => "NAVD_OUT_OF_RANGE",
         _ => "another",
     }
@@ -102,7 +103,7 @@ fn change_obstacles(world: &mut World) -> Result<(), Error> {
     let painted = world.add(&Shape::Prism { corners: &corners, min_y: -0.5, max_y: 1.0 }, 5, 8)?;
     world.set_user(painted, 9)?;
     tell_obstacles(world)?;
-    tell_update(world)?;
+    tell_update(world, ALL_TILES)?;
     world.remove(round)?;
     let unit = vec3(1.0, 1.0, 1.0);
     let none = Shape::Box { center: vec3(f32::NAN, 0.0, 0.0), half: unit, yaw: 0.0 };
@@ -111,8 +112,36 @@ fn change_obstacles(world: &mut World) -> Result<(), Error> {
     let refused = [world.add(&none, 0, 0), world.add(&Shape::Box { center: unit, half: unit, yaw: 0.0 }, 64, 0)].map(|it| name_of(&it.unwrap_err()));
     println!("{} {} {} {}", name_of(&gone), same, refused[0], refused[1]);
     tell_obstacles(world)?;
-    tell_update(world)?;
-    tell_update(world)
+    tell_update(world, ALL_TILES)?;
+    tell_update(world, ALL_TILES)
+}
+
+/// The tiles of a change are built in other threads, and shown by the next update.
+fn build_by_jobs(world: &mut World) -> Result<(), Error> {
+    let round = world.add(&Shape::Cylinder { center: vec3(8.0, 1.0, 6.0), radius: 0.5, half_height: 1.0 }, 0, 0)?;
+    tell_update(world, 0)?;
+    let mut jobs = Vec::new();
+    while let Some(mut job) = world.registry().claim()? {
+        jobs.push(std::thread::spawn(move || job.build().map(|_| job)));
+    }
+    let mut built = 0;
+    for job in jobs {
+        built += u32::from(world.registry().submit(job.join().unwrap()?).map_err(|(error, _)| error)?);
+    }
+    println!("{} tiles by jobs", built);
+    tell_update(world, 0)?;
+    world.remove(round)?;
+    tell_update(world, ALL_TILES)
+}
+
+fn save_and_restore(world: &mut World) -> Result<(), Error> {
+    let saved = world.save()?;
+    world.remove(2)?;
+    println!("saved {} bytes, less of them {}", saved.len(), name_of(&world.restore(&saved[1..]).unwrap_err()));
+    tell_obstacles(world)?;
+    world.restore(&saved)?;
+    tell_obstacles(world)?;
+    tell_update(world, ALL_TILES)
 }
 
 fn ask(snapshot: &mut Snapshot, route: &mut Route) -> Result<(), Error> {
@@ -136,7 +165,7 @@ fn ask(snapshot: &mut Snapshot, route: &mut Route) -> Result<(), Error> {
     tell_route("partial", snapshot.find_path(start(), vec3(60.0, 0.0, 6.0), &partial, route), route);
     tell_route("nowhere", snapshot.find_path(vec3(-9.0, 0.0, 3.0), goal(), &usual, route), route);
     tell_route("no number", snapshot.find_path(vec3(f32::NAN, 0.0, 3.0), goal(), &usual, route), route);
-    println!("a view of {} tiles", snapshot.view().shown()?.tiles);
+    println!("a view of {} tiles", snapshot.view().duplicate()?.shown()?.tiles);
     Ok(())
 }
 
@@ -150,6 +179,8 @@ fn play_more(mut world: World, mut snapshot: Snapshot, mut route: Route) -> Resu
     let set = world.mesh().setting;
     println!("{} {} {} {} {} {} ", set.width, set.depth, set.tile, set.height, set.climb, set.radius);
     change_obstacles(&mut world)?;
+    build_by_jobs(&mut world)?;
+    save_and_restore(&mut world)?;
     snapshot.refresh()?;
     println!("{}", if snapshot.refresh()? { "NAVD_OK" } else { "NAVD_SAME" });
     let asking = std::thread::spawn(move || ask(&mut snapshot, &mut route).map(|_| (snapshot, route)));

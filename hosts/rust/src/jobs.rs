@@ -1,9 +1,9 @@
-//! Jobs: tiles that any thread builds beside whoever changes the level.
+//! Jobs: tiles that any thread builds beside whoever changes the level, or the registry that the level went over into.
 
-use crate::{done, error_of, sys, Error, Level};
+use crate::{done, error_of, sys, Error, Level, Registry};
 use std::ptr::null_mut;
 
-/// A tile that was claimed of a level. A job that is dropped leaves its tile claimed, until the level is settled or its claims are ended.
+/// A tile that was claimed of a level or a registry. A job that is dropped leaves its tile claimed, until a level is settled or all claims are ended.
 pub struct Job {
     handle: sys::Handle,
     tile: u32,
@@ -15,36 +15,67 @@ unsafe impl Send for Job {}
 impl Level {
     /// Claims the least tile that is awaited and not claimed, if there is one.
     pub fn claim(&mut self) -> Result<Option<Job>, Error> {
-        let mut job = Job { handle: sys::Handle { at: null_mut(), full: 0 }, tile: 0 };
-        // SAFETY: both handles are borrowed here alone, and the job's is zeroed.
-        match unsafe { sys::navd_claim(&mut self.handle, &mut job.handle, &mut job.tile) } {
-            sys::SAME => Ok(None),
-            status => done((status, 0)).map(|_| Some(job)),
-        }
+        // SAFETY: here and below, the level's handle is borrowed here alone.
+        claim_by(|job, tile| unsafe { sys::navd_claim(&mut self.handle, job, tile) })
     }
 
     /// Hands a job in that is built: whether it was still wanted. A job that cannot be handed in comes back.
-    pub fn submit(&mut self, mut job: Job) -> Result<bool, (Error, Job)> {
-        match unsafe { sys::navd_submit(&mut self.handle, &mut job.handle) } {
-            sys::OK => Ok(true),
-            sys::STALE => Ok(false),
-            sys::NOT_YET => Err((Error::NotBuilt, job)),
-            status => Err((error_of(status), job)),
-        }
+    pub fn submit(&mut self, job: Job) -> Result<bool, (Error, Job)> {
+        submit_by(job, |job| unsafe { sys::navd_submit(&mut self.handle, job) })
     }
 
     /// Puts a job back, built or not. A job of another ground comes back.
-    pub fn put_back(&mut self, mut job: Job) -> Result<(), (Error, Job)> {
-        match unsafe { sys::navd_put_back(&mut self.handle, &mut job.handle) } {
-            sys::OK => Ok(()),
-            status => Err((error_of(status), job)),
-        }
+    pub fn put_back(&mut self, job: Job) -> Result<(), (Error, Job)> {
+        put_back_by(job, |job| unsafe { sys::navd_put_back(&mut self.handle, job) })
     }
 
     /// Ends all claims.
     pub fn put_back_all(&mut self) {
-        // SAFETY: the handle is this level's.
         unsafe { sys::navd_put_back_all(&mut self.handle) };
+    }
+}
+
+/// As those of a level; what is handed in is shown by an update.
+impl Registry {
+    pub fn claim(&mut self) -> Result<Option<Job>, Error> {
+        // SAFETY: here and below, the registry's handle is borrowed here alone.
+        claim_by(|job, tile| unsafe { sys::navd_registry_claim(&mut self.handle, job, tile) })
+    }
+
+    pub fn submit(&mut self, job: Job) -> Result<bool, (Error, Job)> {
+        submit_by(job, |job| unsafe { sys::navd_registry_submit(&mut self.handle, job) })
+    }
+
+    pub fn put_back(&mut self, job: Job) -> Result<(), (Error, Job)> {
+        put_back_by(job, |job| unsafe { sys::navd_registry_put_back(&mut self.handle, job) })
+    }
+
+    pub fn put_back_all(&mut self) {
+        unsafe { sys::navd_registry_put_back_all(&mut self.handle) };
+    }
+}
+
+fn claim_by(call: impl FnOnce(*mut sys::Handle, *mut u32) -> u32) -> Result<Option<Job>, Error> {
+    let mut job = Job { handle: sys::Handle { at: null_mut(), full: 0 }, tile: 0 };
+    match call(&mut job.handle, &mut job.tile) {
+        sys::SAME => Ok(None),
+        status => done((status, 0)).map(|_| Some(job)),
+    }
+}
+
+fn submit_by(mut job: Job, call: impl FnOnce(*mut sys::Handle) -> u32) -> Result<bool, (Error, Job)> {
+    match call(&mut job.handle) {
+        sys::OK => Ok(true),
+        sys::STALE => Ok(false),
+        sys::NOT_YET => Err((Error::NotBuilt, job)),
+        status => Err((error_of(status), job)),
+    }
+}
+
+fn put_back_by(mut job: Job, call: impl FnOnce(*mut sys::Handle) -> u32) -> Result<(), (Error, Job)> {
+    match call(&mut job.handle) {
+        sys::OK => Ok(()),
+        status => Err((error_of(status), job)),
     }
 }
 

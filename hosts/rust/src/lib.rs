@@ -15,6 +15,7 @@
 mod goals;
 mod heap;
 mod jobs;
+mod lines;
 mod looks;
 mod place_ways;
 mod places;
@@ -30,6 +31,7 @@ use std::fmt;
 use std::ptr::null_mut;
 pub use goals::{Followed, Follower, Found, Nearest};
 pub use jobs::Job;
+pub use lines::Line;
 pub use looks::{Obstacle, Shape};
 pub use place_ways::{FoundWay, PlaceWay};
 pub use places::{Drawn, MeshPlace, Near};
@@ -67,11 +69,13 @@ pub enum Error {
     NotPublished,
     /// The job is not built.
     NotBuilt,
-    /// The job is of a ground that is another in its tile.
+    /// The job, or what was saved, is of another ground.
     Foreign,
     TooManySpans,
     /// Obstacles of the level are alive.
     HasObstacles,
+    /// No save wrote these bytes.
+    NotSaved,
 }
 
 impl fmt::Display for Error {
@@ -86,9 +90,10 @@ impl fmt::Display for Error {
             Error::NotYet { tile } => write!(f, "tile {tile} is still awaited"),
             Error::NotPublished => write!(f, "not all of the history is published"),
             Error::NotBuilt => write!(f, "the job is not built"),
-            Error::Foreign => write!(f, "the job is of another ground"),
+            Error::Foreign => write!(f, "it is of another ground"),
             Error::TooManySpans => write!(f, "the triangles give too many spans"),
             Error::HasObstacles => write!(f, "obstacles of the level are alive"),
+            Error::NotSaved => write!(f, "no save wrote these bytes"),
         }
     }
 }
@@ -104,6 +109,7 @@ fn error_of(status: u32) -> Error {
         sys::HISTORY_FULL => Error::HistoryFull,
         sys::FOREIGN => Error::Foreign,
         sys::TOO_MANY_SPANS => Error::TooManySpans,
+        sys::NOT_SAVED => Error::NotSaved,
         sys::EMPTY => unreachable!("a level's handle is never empty"),
         other => unreachable!("a call that does not end with {other}"),
     }
@@ -300,6 +306,13 @@ impl View {
     pub fn of(level: &mut Level) -> Result<View, Error> {
         let mut view = View { handle: sys::Handle { at: null_mut(), full: 0 } };
         view.look(level).map(|_| view)
+    }
+
+    /// A further view of what this one shows, with its costs, for another thread.
+    pub fn duplicate(&mut self) -> Result<View, Error> {
+        let mut view = View { handle: sys::Handle { at: null_mut(), full: 0 } };
+        // SAFETY: the new handle is zeroed, and this one is borrowed here alone.
+        done((unsafe { sys::navd_view_copy(&mut view.handle, &mut self.handle) }, 0)).map(|_| view)
     }
 
     /// Shows what the level has published now; how many entries that are.

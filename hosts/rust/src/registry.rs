@@ -37,8 +37,9 @@ pub struct Updated {
 }
 
 /// A level with a row for each of its obstacles. What is shown changes in `update` alone.
+#[repr(transparent)]
 pub struct Registry {
-    handle: sys::Handle,
+    pub(crate) handle: sys::Handle,
 }
 
 // SAFETY: the library's handles may go from thread to thread, which is proved of them; the borrows keep each in one call at a time.
@@ -121,6 +122,32 @@ impl Registry {
             pending: told.pending != 0,
             version: told.version,
         })
+    }
+}
+
+impl Registry {
+    /// The obstacles as bytes: their ids, numbers and shapes, which are on, the last id and the version.
+    pub fn save(&mut self) -> Result<Vec<u8>, Error> {
+        // SAFETY: as above.
+        bytes_by(|bytes, room, length| unsafe { sys::navd_registry_save(&mut self.handle, bytes, room, length) })
+    }
+
+    /// Puts the obstacles that were saved in the place of all others; what is shown stays until an update.
+    pub fn restore(&mut self, saved: &[u8]) -> Result<(), Error> {
+        done((unsafe { sys::navd_registry_restore(&mut self.handle, saved.as_ptr(), saved.len()) }, 0)).map(|_| ())
+    }
+}
+
+/// Asks for bytes until there is room for all of them.
+pub(crate) fn bytes_by(mut call: impl FnMut(*mut u8, usize, *mut usize) -> u32) -> Result<Vec<u8>, Error> {
+    let mut bytes = vec![0; 1024];
+    loop {
+        let mut length = 0;
+        let status = call(bytes.as_mut_ptr(), bytes.len(), &mut length);
+        bytes.resize(length, 0);
+        if status != sys::NO_ROOM {
+            return done((status, 0)).map(|_| bytes);
+        }
     }
 }
 

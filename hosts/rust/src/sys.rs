@@ -28,7 +28,9 @@ pub const PARTIAL: u32 = 19;
 pub const LIMIT: u32 = 20;
 pub const CUT: u32 = 21;
 pub const NO_PLACE: u32 = 22;
+pub const ABOUT: u32 = 26;
 pub const NO_OBSTACLE: u32 = 24;
+pub const NOT_SAVED: u32 = 25;
 
 #[repr(C)]
 pub struct Handle {
@@ -463,6 +465,20 @@ pub struct Around {
     pub areas: u64,
 }
 
+#[repr(C)]
+#[derive(Clone, Copy, Default)]
+pub struct Line {
+    pub way: Way,
+    pub most: u32,
+    pub quick: u32,
+    pub upper: u64,
+    pub lower: u64,
+    pub first: Polygon,
+    pub last: Polygon,
+    pub links: usize,
+    pub turns: usize,
+}
+
 /// A wall on an edge of a polygon, which lies to its left; num / den is the square of how far it is, in sixteenths of a cell.
 #[repr(C)]
 #[derive(Clone, Copy, Default, Debug, PartialEq, Eq)]
@@ -612,7 +628,13 @@ extern "C" {
     pub fn navd_registry_remove(registry: *mut Handle, id: u64) -> u32;
     pub fn navd_registry_rows(registry: *mut Handle, rows: *mut Row, room: usize, count: *mut usize) -> u32;
     pub fn navd_registry_update(registry: *mut Handle, most: u32, updated: *mut Updated) -> u32;
+    pub fn navd_registry_claim(registry: *mut Handle, job: *mut Handle, tile: *mut u32) -> u32;
+    pub fn navd_registry_submit(registry: *mut Handle, job: *mut Handle) -> u32;
+    pub fn navd_registry_put_back(registry: *mut Handle, job: *mut Handle) -> u32;
+    pub fn navd_registry_put_back_all(registry: *mut Handle) -> u32;
     pub fn navd_registry_look(view: *mut Handle, registry: *mut Handle, version: *mut u64) -> u32;
+    pub fn navd_registry_save(registry: *mut Handle, bytes: *mut u8, room: usize, length: *mut usize) -> u32;
+    pub fn navd_registry_restore(registry: *mut Handle, bytes: *const u8, length: usize) -> u32;
     pub fn navd_view_set_costs(view: *mut Handle, costs: *const u32, count: usize) -> u32;
     pub fn navd_view_count(view: *mut Handle, shown: *mut Shown) -> u32;
     pub fn navd_view_find_hop(
@@ -632,6 +654,7 @@ extern "C" {
     pub fn navd_view_border_links(view: *mut Handle, tile: u32, links: *mut Link, room: usize, count: *mut usize) -> u32;
     pub fn navd_look(view: *mut Handle, level: *mut Handle, published: *mut u32) -> u32;
     pub fn navd_view_close(view: *mut Handle);
+    pub fn navd_view_copy(to: *mut Handle, from: *mut Handle) -> u32;
     pub fn navd_view_floors(view: *mut Handle, x: u32, z: u32, floors: *mut Floor, room: usize, count: *mut usize) -> u32;
     pub fn navd_view_find_path(
         view: *mut Handle,
@@ -641,6 +664,14 @@ extern "C" {
         turns: *mut Turn,
         turns_room: usize,
         path: *mut Path,
+    ) -> u32;
+    pub fn navd_view_shortest(
+        view: *mut Handle,
+        line: *mut Line,
+        links: *mut Link,
+        links_room: usize,
+        turns: *mut Turn,
+        turns_room: usize,
     ) -> u32;
     pub fn navd_view_cast_ray(view: *mut Handle, way: *const Way, ray: *mut Ray) -> u32;
     pub fn navd_view_check_path(

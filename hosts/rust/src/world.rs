@@ -19,7 +19,7 @@
 //! # }
 //! ```
 use crate::world_sys as sys;
-use crate::{done, error_of, Error, Row, View};
+use crate::{done, error_of, Error, Registry, Row, View};
 use std::ffi::CStr;
 use std::fmt;
 use std::mem::size_of;
@@ -270,6 +270,12 @@ impl World {
         unsafe { *sys::navd_world_mesh(self.held.0.as_ptr()) }
     }
 
+    /// Its registry, for jobs, which any thread builds, and what else it has.
+    pub fn registry(&mut self) -> &mut Registry {
+        // SAFETY: a registry is its handle, which this world has, and which is borrowed with it; no snapshot touches it.
+        unsafe { &mut *sys::navd_world_registry(self.at()).cast() }
+    }
+
     /// Adds an obstacle, which is on, with a number of the host's own; its id. With the area 0 it stops agents, with 1 to 63 it gives that area.
     pub fn add(&mut self, shape: &Shape, area: u32, user: u64) -> Result<u64, Error> {
         let mut id = 0;
@@ -304,6 +310,17 @@ impl World {
     pub fn obstacles(&mut self) -> Result<Vec<Row>, Error> {
         let world = self.at();
         crate::registry::rows_by(|rows, room, count| unsafe { sys::navd_world_obstacles(world, rows, room, count) })
+    }
+
+    /// The obstacles as bytes: their ids, numbers and shapes, which are on, the last id and the version.
+    pub fn save(&mut self) -> Result<Vec<u8>, Error> {
+        let world = self.at();
+        crate::registry::bytes_by(|bytes, room, length| unsafe { sys::navd_world_save(world, bytes, room, length) })
+    }
+
+    /// Puts the obstacles that were saved, of a world of the same cells, in the place of all others; what is shown stays until an update.
+    pub fn restore(&mut self, saved: &[u8]) -> Result<(), Error> {
+        done((unsafe { sys::navd_world_restore(self.at(), saved.as_ptr(), saved.len()) }, 0)).map(drop)
     }
 
     /// Builds at most so many tiles of what was asked for, and shows it once all of it is built.

@@ -131,12 +131,15 @@ extern "C" {
     pub fn navd_world_create(def: *const WorldDef, mesh: *const TriangleMesh, world: *mut *mut World, problem: *mut Problem) -> u32;
     pub fn navd_world_destroy(world: *mut World);
     pub fn navd_world_mesh(world: *const World) -> *const Mesh;
+    pub fn navd_world_registry(world: *mut World) -> *mut Handle;
     pub fn navd_world_add(world: *mut World, shape: *const Shape, user: u64, id: *mut u64) -> u32;
     pub fn navd_world_move(world: *mut World, id: u64, shape: *const Shape) -> u32;
     pub fn navd_world_set_enabled(world: *mut World, id: u64, enabled: i32) -> u32;
     pub fn navd_world_set_user(world: *mut World, id: u64, user: u64) -> u32;
     pub fn navd_world_remove(world: *mut World, id: u64) -> u32;
     pub fn navd_world_obstacles(world: *mut World, rows: *mut Row, room: usize, count: *mut usize) -> u32;
+    pub fn navd_world_save(world: *mut World, bytes: *mut u8, room: usize, length: *mut usize) -> u32;
+    pub fn navd_world_restore(world: *mut World, bytes: *const u8, length: usize) -> u32;
     pub fn navd_world_update(world: *mut World, max_tiles: u32, progress: *mut Progress) -> u32;
     pub fn navd_snapshot_create(world: *mut World, agent: u32, snapshot: *mut *mut Snapshot) -> u32;
     pub fn navd_snapshot_refresh(snapshot: *mut Snapshot, world: *mut World) -> u32;

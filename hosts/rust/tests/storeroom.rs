@@ -170,8 +170,32 @@ fn obstacles_keep_their_ids() {
     let mut view = View::of_registry(&mut registry).unwrap();
     while registry.update(1).unwrap().pending {}
     assert_eq!(view.look_at(&mut registry).unwrap(), 2);
+    let saved = registry.save().unwrap();
     registry.remove(id).unwrap();
     assert_eq!(registry.rows().unwrap().len(), 1);
+    assert_eq!(registry.restore(&saved[1..]), Err(Error::NotSaved));
+    registry.restore(&saved).unwrap();
+    assert_eq!(registry.rows().unwrap(), rows);
+    assert!(registry.claim().unwrap().is_none() && !registry.update(0).unwrap().published);
+    let unbuilt = registry.claim().unwrap().unwrap();
+    let tile = unbuilt.tile();
+    let (error, unbuilt) = registry.submit(unbuilt).unwrap_err();
+    assert_eq!(error, Error::NotBuilt);
+    registry.put_back(unbuilt).map_err(|(error, _)| error).unwrap();
+    let mut jobs = Vec::new();
+    while let Some(mut job) = registry.claim().unwrap() {
+        jobs.push(std::thread::spawn(move || job.build().map(|_| job)));
+    }
+    for (place, job) in jobs.into_iter().enumerate() {
+        let job = job.join().unwrap().unwrap();
+        assert!(place > 0 || job.tile() == tile);
+        assert!(registry.submit(job).map_err(|(error, _)| error).unwrap());
+    }
+    assert!(registry.update(0).unwrap().published);
+    let mut copy = view.duplicate().unwrap();
+    assert_eq!(view.look_at(&mut registry).unwrap(), 3);
+    assert_ne!(copy.shown().unwrap().published, view.shown().unwrap().published);
+    registry.put_back_all();
     let mut level = Level::open(TEXT).unwrap();
     level.add_block(&CRATE, 0).unwrap();
     assert!(matches!(Registry::of(level), Err((Error::HasObstacles, _))));
