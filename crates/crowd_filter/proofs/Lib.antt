@@ -1,5 +1,5 @@
-mod BeyondLaws
-mod Readings
-mod PairLaws
-mod StepLaws
-mod StandLaws
+mod SpaceLaws
+mod PlacingLaws
+pub mod MovedLaws
+mod RunLaws
+mod StepParts

@@ -1,4 +1,4 @@
-pub mod Beyond
-pub mod Pairs
-pub mod Laws
-pub mod Steps
+pub mod CrowdAgents
+pub mod Placing
+pub mod CrowdSteps
+pub mod Runs

@@ -1,13 +1,32 @@
-//! Laws of moves that are clear of each other. The calls do nothing; a proof that has two such moves cites what they ensure.
+//! What a step of a crowd means, in the reader's words. The calls do nothing; a proof that has a step cites what they ensure.
 
-ghost use Rattle.crowd_filter.specs.Laws.{ComeNoNearer, DoStayApart};
+ghost use Rattle.crowd_filter.specs.CrowdSteps.{AllWalkRight, ComeNoNearer, StayApart};
+ghost use Rattle.crowd_filter.specs.Runs.{DoHeldStay, DoRunsKeep};
 
-/// Two agents that are apart, with moves that are clear of each other, are apart at every moment of the step.
+use fine_walk::stays;
+
+/// Two agents that are apart when a step begins are apart at every moment of it, and after it.
 pub fn stay_apart()
-    ensures { DoStayApart }
+    ensures { StayApart }
 {}
 
-/// Two agents that overlap, with moves that are clear of each other, come no nearer at any moment of the step.
+/// Two agents that overlap when a step begins come at no moment of it nearer than they are.
 pub fn no_nearer()
     ensures { ComeNoNearer }
 {}
+
+/// Each agent goes straight, on the mesh, link by link, no farther than its speed, and is then in the polygon that it names; who is stranded stands.
+pub fn on_mesh()
+    ensures { AllWalkRight }
+{
+    stays();
+}
+
+/// An agent that is held in a mesh is not placed elsewhere in it. So agents that are held and apart are so after any number of steps over one mesh,
+/// whatever is wished.
+pub fn runs()
+    ensures held { DoHeldStay }
+    ensures keep { DoRunsKeep }
+{
+    stays();
+}

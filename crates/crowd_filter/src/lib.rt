@@ -1,24 +1,23 @@
-//! A filter for crowds: whether the moves of agents keep them apart.
+//! The steps of a crowd on a mesh: wishes go in, and moves that keep its agents apart and on the mesh come out.
 //!
-//! Agents are discs that go straight and evenly for one step. `stays_beyond` tells exactly, in whole numbers, whether two keep a distance at every
-//! moment of the step, its ends included. `is_clear` asks it of two agents with their moves: who is apart stays apart, who overlaps comes no nearer,
-//! and who passes over other storeys is let past.
+//! `step` places each agent in its polygon of the mesh (`place`), grants moves in rounds (`crowd_moves`), each along a straight way of fine points
+//! over polygons that the agent may enter (`MeshSpace`), and makes them. An agent of which no polygon is known is stranded: it stands, and others
+//! keep away from it. Where memory is refused nothing changes.
 //!
-//! A step begins with `stand`: all stand, and their moves are clear of each other. `grant` gives one agent a move where it is clear of the moves of
-//! all others, and keeps that they are. So any steering may propose moves, in any order; whichever are granted keep the laws. Whether the mesh lets
-//! an agent move so is asked of `fine_walk` before.
+//! Nothing of the wishes is believed: whatever they are, agents that are apart stay apart at every moment of the step (`stay_apart`), those that
+//! overlap come no nearer (`no_nearer`), each goes on the mesh and no farther than its speed (`on_mesh`), and who has nobody near makes the first
+//! move of its list that it may.
 //!
-//! Points, radii and speeds are in fine units, 1/256 of a cell.
+//! Points, radii and speeds are in fine units, 1/256 of a cell; speeds are by step.
 #![tactic(auto)]
 
-mod agents;
-mod beyond;
 mod laws;
-mod pairs;
+mod placing;
+mod space;
 mod steps;
+mod tiles;
 
-pub use agents::{CrowdAgent, CrowdMove};
-pub use beyond::stays_beyond;
-pub use laws::{no_nearer, stay_apart};
-pub use pairs::{has_room, has_sizes, is_apart, is_clear, is_mover};
-pub use steps::{grant, is_free, stand};
+pub use laws::{no_nearer, on_mesh, runs, stay_apart};
+pub use placing::place;
+pub use space::MeshSpace;
+pub use steps::step;

@@ -1,101 +1,124 @@
-//! The moves of one step, granted one at a time: each only where it is clear of those of all others.
+//! One step of a crowd on a mesh.
 
-ghost use Rattle.std.specs.Prelude.{◌≡◌, ◌↔◌, ◌<◌, ℕ, length, map, slice_set, if◌then◌else◌, All, IfOk, IsTrue};
-ghost use Rattle.crowd_filter.specs.Pairs.{HasSizes};
-ghost use Rattle.crowd_filter.specs.Steps.{AreClearMoves, IsClearBeside, IsFree, IsMoverAt, standing};
+ghost use Rattle.std.specs.Prelude.{◌≡◌, ◌<◌, ◌^◌, All, IfOk, OnErr, length, slice_get, Some, ℕ};
+ghost use Rattle.nav_ground.specs.Limits.{IsSetting};
+ghost use Rattle.mesh_types.specs.Soundness.{IsSound};
+ghost use Rattle.crowd_moves.specs.declared.agents.CrowdAgent.{CrowdAgent};
+ghost use Rattle.crowd_moves.specs.declared.agents.CrowdMove.{CrowdMove};
+ghost use Rattle.crowd_moves.specs.Pairs.{HasSizes};
+ghost use Rattle.crowd_moves.specs.Steps.{MayMove};
+ghost use Rattle.crowd_filter.specs.CrowdAgents.{IsCrowdAgent, MayWalk};
+ghost use Rattle.crowd_filter.specs.CrowdSteps;
+ghost use Rattle.crowd_filter.specs.CrowdSteps.{AreGrantedIn, ArePlacedAnew, HaveMoved, IsCrowdStep};
 
-use crate::agents::{CrowdAgent, CrowdMove};
-use crate::pairs::is_clear;
-use fine_walk::FineWay;
-use nav_base::Point;
+use crate::placing::{floors, place};
+use crate::space::{MeshSpace, sum};
+use crowd_moves::{Crowd, CrowdAgent, CrowdMove, CrowdWishes, find_contacts, grant, stand};
+use mesh_types::Mesh;
 use std::alloc::{AllocError, Global};
 
-/// The moves with which a step begins: all stand.
-pub fn stand(alloc: Global, agents: &[CrowdAgent]) -> Result<Vec<CrowdMove>, AllocError>
-    requires { All HasSizes agents.now }
-    ensures moves { IfOk result (λ moves. moves.items ≡ map standing agents.now) }
-    ensures right { IfOk result (λ moves. (height : ℕ) → AreClearMoves height agents.now moves.items) }
+/// One step of a crowd: each agent is placed in the mesh, gets the first of its wishes that the mesh lets it make and that is clear of the moves of all
+/// others, in at most so many rounds, and makes it. Whether in the last round nobody could gain any more. Where memory is refused nothing changes.
+pub fn step(
+    alloc: Global,
+    mesh: &Mesh,
+    wishes: CrowdWishes,
+    rounds: u32,
+    agents: &mut [CrowdAgent],
+) -> Result<bool, AllocError>
+    requires sound { IsSound mesh.now }
+    requires setting { IsSetting mesh.now.setting }
+    requires sizes { All HasSizes agents.old }
+    requires few { length agents.old < 2 ^ 32 }
+    requires rounds { 0 < rounds }
+    ensures right { IfOk result (λ settles. IsCrowdStep mesh.now wishes.entry.order.now wishes.entry.first.now wishes.entry.vectors.now agents.old agents.new settles) }
+    ensures refused { OnErr result (agents.new ≡ agents.old) }
 {
-    standing_moves(alloc, agents)
+    let placed = placed_anew(alloc, mesh, agents)?;
+    let granted = granted(alloc, mesh, wishes, rounds, placed.as_slice())?;
+    make_moves(mesh, placed.as_slice(), granted.moves.as_slice(), agents);
+    Ok(granted.settles)
 }
 
-/// For each agent the move by which it stands.
-fn standing_moves(alloc: Global, agents: &[CrowdAgent]) -> Result<Vec<CrowdMove>, AllocError>
-    ensures { IfOk result (λ moves. moves.items ≡ map standing agents.now) }
-{
-    agents
-        .iter()
-        .map(|agent| CrowdMove {
-            by: Point { x: 0, z: 0 },
-            way: FineWay {
-                last: agent.polygon,
-                low: agent.low,
-                high: agent.high,
-            },
-        })
-        .collect(alloc)
+/// The moves that are granted, and whether nobody could gain any more.
+#[derive(Drop)]
+struct GrantedMoves {
+    moves: Vec<CrowdMove>,
+    settles: bool,
 }
 
-/// Gives an agent a move, in place of the one that it has, where it is clear of the moves of all others; else nothing changes.
-pub fn grant(
-    height: u32,
+/// The agents in their polygons of this mesh.
+fn placed_anew(
+    alloc: Global,
+    mesh: &Mesh,
     agents: &[CrowdAgent],
-    moves: &mut [CrowdMove],
-    i: usize,
-    made: CrowdMove,
-) -> bool
-    requires moves { AreClearMoves height agents.now moves.old }
-    requires there { i < length agents.now }
-    requires mover { IsMoverAt agents.now i made }
-    ensures right { AreClearMoves height agents.now moves.new }
-    ensures granted { IsTrue result ↔ IsFree height agents.now moves.old i made }
-    ensures value { moves.new ≡ (if result then slice_set moves.old i made else moves.old) }
+) -> Result<Vec<CrowdAgent>, AllocError>
+    requires sound { IsSound mesh.now }
+    requires setting { IsSetting mesh.now.setting }
+    requires sizes { All HasSizes agents.now }
+    ensures { IfOk result (λ placed. ArePlacedAnew mesh.now agents.now placed.items) }
 {
-    if !is_free(height, agents, moves, i, &made) {
-        return false;
+    let mut placed = Vec::with_capacity(alloc, agents.len())?;
+    for i in 0..agents.len() {
+        placed.push(place(mesh, agents[i]))?;
     }
-    moves[i] = made;
-    true
+    Ok(placed)
 }
 
-/// Whether a move of an agent is clear of the moves of all others.
-pub fn is_free(
-    height: u32,
-    agents: &[CrowdAgent],
-    moves: &[CrowdMove],
-    i: usize,
-    made: &CrowdMove,
-) -> bool
-    requires moves { AreClearMoves height agents.now moves.now }
-    requires there { i < length agents.now }
-    requires mover { IsMoverAt agents.now i made.now }
-    ensures { IsTrue result ↔ IsFree height agents.now moves.now i made.now }
+/// The moves that agents in the mesh are granted of their wishes.
+fn granted(
+    alloc: Global,
+    mesh: &Mesh,
+    wishes: CrowdWishes,
+    rounds: u32,
+    placed: &[CrowdAgent],
+) -> Result<GrantedMoves, AllocError>
+    requires sound { IsSound mesh.now }
+    requires agents { All (IsCrowdAgent mesh.now) placed.now }
+    requires few { length placed.now < 2 ^ 32 }
+    requires rounds { 0 < rounds }
+    ensures { IfOk result (λ granted. AreGrantedIn mesh.now wishes.entry.order.now wishes.entry.first.now wishes.entry.vectors.now placed.now granted.moves.items granted.settles) }
 {
-    for j in 0..agents.len() {
-        if !is_clear_beside(height, agents, moves, i, made, j) {
-            return false;
-        }
-    }
-    true
+    let space = MeshSpace { mesh };
+    let contacts = find_contacts(alloc, placed)?;
+    let mut moves = stand(alloc, &space, placed)?;
+    let crowd = Crowd {
+        height: mesh.setting.agent.height,
+        agents: placed,
+        contacts: &contacts,
+    };
+    let settles = grant(&space, crowd, wishes, rounds, moves.as_mut_slice());
+    Ok(GrantedMoves { moves, settles })
 }
 
-/// Whether a move of one agent is clear of the move of another.
-fn is_clear_beside(
-    height: u32,
-    agents: &[CrowdAgent],
-    moves: &[CrowdMove],
-    i: usize,
-    made: &CrowdMove,
-    j: usize,
-) -> bool
-    requires moves { AreClearMoves height agents.now moves.now }
-    requires there { i < length agents.now }
-    requires other { j < length agents.now }
-    requires mover { IsMoverAt agents.now i made.now }
-    ensures { IsTrue result ↔ IsClearBeside height agents.now moves.now i made.now j }
+/// Writes each agent as it is after its move.
+fn make_moves(mesh: &Mesh, placed: &[CrowdAgent], moves: &[CrowdMove], agents: &mut [CrowdAgent])
+    requires agents { All (IsCrowdAgent mesh.now) placed.now }
+    requires moves { (i : ℕ) (a : CrowdAgent) (m : CrowdMove) → slice_get placed.now i ≡ Some a → slice_get moves.now i ≡ Some m → MayMove (MayWalk mesh.now) a m }
+    requires one_each { length agents.old ≡ length placed.now }
+    requires one_move { length moves.now ≡ length placed.now }
+    ensures { HaveMoved mesh.now placed.now moves.now agents.new }
 {
-    if j == i {
-        return true;
+    for i in 0..agents.len() {
+        agents[i] = moved(mesh, &placed[i], &moves[i]);
     }
-    is_clear(height, &agents[i], &agents[j], made, &moves[j])
+}
+
+/// An agent after its move.
+fn moved(mesh: &Mesh, agent: &CrowdAgent, made: &CrowdMove) -> CrowdAgent
+    requires agent { IsCrowdAgent mesh.now agent.now }
+    requires made { MayMove (MayWalk mesh.now) agent.now made.now }
+    ensures { result ≡ CrowdSteps.moved mesh.now agent.now made.now }
+{
+    if agent.stranded {
+        return *agent;
+    }
+    let (low, high) = floors(mesh, made.to);
+    CrowdAgent {
+        at: sum(agent.at, made.by),
+        polygon: made.to,
+        low,
+        high,
+        ..*agent
+    }
 }

@@ -5,12 +5,13 @@ ghost use Rattle.nav_ground.specs.Limits.{IsSetting};
 ghost use Rattle.mesh_types.specs.declared.links.Link as references;
 ghost use Rattle.mesh_types.specs.Corridors.{IsLinkOf, cost_of};
 ghost use Rattle.mesh_types.specs.Soundness.{IsSound};
+ghost use Rattle.corridor_search.specs.Estimates.{extent_at};
 ghost use Rattle.path_queries.specs.Filters.{AreCosts, Enters, IsFilter, priced, with_costs};
 ghost use Rattle.kept_paths.specs.KeptPaths.{IsThrough, LeadOn, LeadsOn};
 
 use crate::weights::step_over;
 use corridor_search::extent_at;
-use mesh_types::{Link, Mesh, PolyRef, Portal};
+use mesh_types::{Extent, Link, Mesh, PolyRef, Portal};
 use nav_base::Point;
 use nav_ground::AREAS;
 use nav_lists::Items;
@@ -69,38 +70,62 @@ fn lead_at(
             let links = Items::from_vec(links);
             return Ok(Lead { links, last, cost });
         };
-        let step = step_over(mesh, costs, left, &next);
-        links.push(next)?;
-        cost += step.cost;
-        last = next.to;
-        left = step.entered;
+        let step = step_over(mesh, costs, left, &next.link, next.entered);
+        links.push(next.link)?;
+        cost += step;
+        last = next.link.to;
+        left = next.entered;
     }
     let links = Items::from_vec(links);
     Ok(Lead { links, last, cost })
 }
 
+/// A link that leads on, and the extent of the polygon that it enters.
+#[derive(Clone, Copy)]
+struct OnwardLink {
+    link: Link,
+    entered: Extent,
+}
+
 /// The link that leads on from a polygon through the portal of a kept link: the kept one where that does; none exactly where none does.
-fn leading_on(mesh: &Mesh, areas: u64, at: PolyRef, kept: &Link) -> Option<Link>
+fn leading_on(mesh: &Mesh, areas: u64, at: PolyRef, kept: &Link) -> Option<OnwardLink>
+    requires sound { IsSound mesh.now }
+    ensures some { IfSome result (λ next. LeadsOn mesh.now areas at kept.now next.link) }
+    ensures entered { IfSome result (λ next. next.entered ≡ extent_at mesh.now next.link.to) }
+    ensures kept { IfSome result (λ next. LeadsOn mesh.now areas at kept.now kept.now → next.link ≡ kept.now) }
+    ensures none { IfNone result ((link : references.Link) → LeadsOn mesh.now areas at kept.now link → ⊥) }
+{
+    let entered = extent_at(mesh, kept.to);
+    if is_leading(mesh, areas, at, kept, entered) {
+        return Some(OnwardLink {
+            link: *kept,
+            entered,
+        });
+    }
+    let link = first_leading(mesh, areas, at, kept)?;
+    let entered = extent_at(mesh, link.to);
+    Some(OnwardLink { link, entered })
+}
+
+/// The first link that leads on from a polygon through the portal of a kept link; none exactly where none does.
+fn first_leading(mesh: &Mesh, areas: u64, at: PolyRef, kept: &Link) -> Option<Link>
     requires sound { IsSound mesh.now }
     ensures some { IfSome result (λ link. LeadsOn mesh.now areas at kept.now link) }
     ensures none { IfNone result ((link : references.Link) → LeadsOn mesh.now areas at kept.now link → ⊥) }
-    ensures kept { LeadsOn mesh.now areas at kept.now kept.now → result ≡ Some kept.now }
 {
-    if is_leading(mesh, areas, at, kept) {
-        return Some(*kept);
-    }
     match first_on(mesh, areas, inner(mesh, at), kept.portal) {
         Some(link) => Some(link),
         None => first_on(mesh, areas, outer(mesh, at), kept.portal),
     }
 }
 
-/// Whether a kept link itself leads on from a polygon.
-fn is_leading(mesh: &Mesh, areas: u64, at: PolyRef, kept: &Link) -> bool
+/// Whether a kept link itself leads on from a polygon, by the extent of the one that it enters.
+fn is_leading(mesh: &Mesh, areas: u64, at: PolyRef, kept: &Link, entered: Extent) -> bool
     requires sound { IsSound mesh.now }
+    requires entered { entered ≡ extent_at mesh.now kept.now.to }
     ensures { IsTrue result ↔ LeadsOn mesh.now areas at kept.now kept.now }
 {
-    leaves(mesh, at, kept) && enters(mesh, areas, kept)
+    leaves(mesh, at, kept) && enters_by(mesh, areas, kept, entered)
 }
 
 /// Whether a link stands among others.
@@ -142,7 +167,18 @@ pub(crate) fn enters(mesh: &Mesh, areas: u64, link: &Link) -> bool
     requires sound { IsSound mesh.now }
     ensures { IsTrue result ↔ Enters mesh.now areas link.now }
 {
-    is_open_area(areas, extent_at(mesh, link.to).area)
+    enters_by(mesh, areas, link, extent_at(mesh, link.to))
+}
+
+/// The same, by the extent of the polygon that it enters.
+fn enters_by(mesh: &Mesh, areas: u64, link: &Link, entered: Extent) -> bool
+    requires sound { IsSound mesh.now }
+    requires entered { entered ≡ extent_at mesh.now link.now.to }
+    ensures { IsTrue result ↔ Enters mesh.now areas link.now }
+{
+    let _ = mesh;
+    let _ = link;
+    is_open_area(areas, entered.area)
 }
 
 /// Whether an area is one that can be walked on and is open. Where no polygon is, the extent has the area 0.

@@ -6,7 +6,8 @@
 //! is known by its portal. After Detour's `dtPathCorridor`.
 //!
 //! `repair_path` keeps the first of the links that lead on, and searches from there for a cheapest walk to the goal, or to where the last
-//! links lead on as they are. The whole is cheapest only where nothing is kept nor joined.
+//! links lead on as they are. The whole is cheapest only where nothing is kept nor joined. `repair_path_in` does so in room that an earlier
+//! search may have left.
 //!
 //! Points are in sixteenths of a cell, heights in the unit of the floors.
 #![tactic(auto)]
@@ -21,4 +22,4 @@ mod weights;
 
 pub use checks::{CheckAnswer, KeptPath, check};
 pub use leads::leaves;
-pub use repairs::{Repair, RepairAnswer, repair_path};
+pub use repairs::{Repair, RepairAnswer, repair_path, repair_path_in};

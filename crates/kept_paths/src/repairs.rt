@@ -12,11 +12,11 @@ use crate::leads::lead_from;
 use crate::rests::bridge_target;
 use crate::splices::{Parts, end_of, first_links, splice};
 use crate::weights::cost;
-use graph_search::Limits;
+use graph_search::{Limits, Room};
 use mesh_types::{Asked, Corner, Link, Mesh, PolyRef};
 use nav_lists::Items;
 use path_queries::reach::Reach;
-use path_queries::{cheapest_allowed, turns};
+use path_queries::{AskedIn, WalkEnds, cheapest_allowed_in, turns};
 use std::alloc::{AllocError, Global};
 
 /// A kept path that is to lead to its goal again.
@@ -65,12 +65,28 @@ pub fn repair_path(alloc: Global, mesh: &Mesh, repair: &Repair) -> Result<Repair
     requires repair { CanRepair repair.now }
     ensures right { IfOk result (λ answer. IsRightRepair repair.now mesh.now answer) }
 {
+    let mut room = Room::new(alloc);
+    repair_path_in(alloc, &mut room, mesh, repair)
+}
+
+/// The same, in room that an earlier search may have left.
+pub fn repair_path_in(
+    alloc: Global,
+    room: &mut Room,
+    mesh: &Mesh,
+    repair: &Repair,
+) -> Result<RepairAnswer, AllocError>
+    requires sound { IsSound mesh.now }
+    requires setting { IsSetting mesh.now.setting }
+    requires repair { CanRepair repair.now }
+    ensures right { IfOk result (λ answer. IsRightRepair repair.now mesh.now answer) }
+{
     let path = &repair.path;
     let Some(first) = beginning(mesh, path) else {
         return Ok(RepairAnswer::NoStart);
     };
     let lead = lead_from(alloc, mesh, &path.filter, first, path.links.as_slice())?;
-    repair_behind(alloc, mesh, repair, first, lead.links.as_slice())
+    repair_behind(alloc, room, mesh, repair, first, lead.links.as_slice())
 }
 
 impl Asked for Repair {
@@ -85,9 +101,21 @@ impl Asked for Repair {
     }
 }
 
+impl AskedIn for Repair {
+    fn ask_in(
+        &self,
+        alloc: Global,
+        room: &mut Room,
+        mesh: &Mesh,
+    ) -> Result<RepairAnswer, AllocError> {
+        repair_path_in(alloc, room, mesh, self)
+    }
+}
+
 /// The same, of the links as which the path leads on.
 fn repair_behind(
     alloc: Global,
+    room: &mut Room,
     mesh: &Mesh,
     repair: &Repair,
     first: PolyRef,
@@ -117,7 +145,11 @@ fn repair_behind(
         key: u64::MAX,
         count: repair.most_polygons,
     };
-    match cheapest_allowed(alloc, mesh, &path.filter, at, target.to, limits)? {
+    let ends = WalkEnds {
+        from: at,
+        to: target.to,
+    };
+    match cheapest_allowed_in(alloc, room, mesh, &path.filter, ends, limits)? {
         Reach::Found { corridor, .. } => {
             let parts = Parts {
                 kept,

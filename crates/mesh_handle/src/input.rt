@@ -8,7 +8,7 @@ ghost use Rattle.mesh_input.specs.Adding.{AreAdded, lists_of};
 ghost use Rattle.mesh_handle.specs.declared.input.MeshAsk.{MeshAsk};
 ghost use Rattle.mesh_handle.specs.Meshes.{AreWhole, EndsMesh, EndsTriangles, IsAskOf, IsFieldOfMesh};
 
-use crate::setting::{setting, slope};
+use crate::setting::{asked_setting, slope};
 use crate::wire::NavdMesh;
 use mesh_input::{FaultyTriangle, MeshGrid, MeshRefusal, Slope, add_triangles, mesh_grid};
 use nav_ground::{Field, Setting};
@@ -79,7 +79,7 @@ fn asked(mesh: &NavdMesh) -> Option<MeshAsk>
     ensures found { IfSome result (IsAskOf mesh.now) }
     ensures none { IsNone result → (ask : MeshAsk) → ¬ IsAskOf mesh.now ask }
 {
-    let setting = setting(&mesh.setting)?;
+    let setting = asked_setting(&mesh.setting)?;
     let slope = slope(&mesh.slope)?;
     let grid = mesh_grid(mesh.frame)?;
     Some(MeshAsk {

@@ -20,4 +20,5 @@ pub use ends::end_mesh;
 pub use frames::frame_over;
 pub use input::{MeshEnd, MeshField, field_of};
 pub use points::{places_of, points_of};
+pub use setting::{asked_setting, setting_of};
 pub use wire::{NavdMesh, NavdMeshFault, NavdSetting, NavdSlope};

@@ -9,7 +9,7 @@ use mesh_input::Slope;
 use nav_ground::{AREAS, Agent, MeshKind, Setting};
 
 /// The setting that a host asks for; each area costs 1.
-fn setting_of(asked: &NavdSetting) -> Setting
+pub fn setting_of(asked: &NavdSetting) -> Setting
     ensures { result ≡ setting_of asked.now }
 {
     Setting {
@@ -59,7 +59,7 @@ fn has_rest(asked: &NavdSetting) -> bool
 }
 
 /// The setting that a host asks for, where it is one.
-pub(crate) fn setting(asked: &NavdSetting) -> Option<Setting>
+pub fn asked_setting(asked: &NavdSetting) -> Option<Setting>
     ensures value { IfSome result (λ setting. setting ≡ setting_of asked.now) }
     ensures rules { IfSome result IsSetting }
     ensures none { IsNone result → ¬ IsSetting (setting_of asked.now) }

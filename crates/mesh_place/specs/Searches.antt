@@ -49,6 +49,16 @@ pub record IsFoundAmong (mesh : Mesh) (asked : Near) (old new : Option MeshPlace
   pub all : (other : MeshPlace) → Stands mesh other → IsInReach mesh asked other → among other
       → IsNotBefore mesh.setting.agent.climb asked other new
 
+-- a place of a polygon, if there is one
+abbrev pub IsOf : Option PolyRef → MeshPlace → Type 0
+IsOf None place = ⊥
+IsOf (Some at) place = place.polygon ≡ at
+
+-- all places of a polygon were looked at, if there is one: none of them that stands and is in reach comes before what was found
+abbrev pub IsDone : Mesh → Near → Option PolyRef → Option MeshPlace → Type 0
+IsDone mesh asked done best =
+    (other : MeshPlace) → Stands mesh other → IsInReach mesh asked other → IsOf done other → IsNotBefore mesh.setting.agent.climb asked other best
+
 -- a height can be measured against what is asked
 pub record IsHeightNear (asked : Near) (y : ℕ) : Type 0 where
   pub low : asked.y ≤ y + asked.down

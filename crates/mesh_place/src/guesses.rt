@@ -37,7 +37,8 @@ pub(crate) fn likely_polygon(polygons: &Polygons, climb: u32, asked: &Near) -> u
     likely
 }
 
-/// The measure that the nearest place of a polygon in a square is likely to have, if that is less than another; that other else.
+/// The measure that the nearest place of a polygon in a square is likely to have, if that is less than another; that other else. Where the
+/// point lies outside the polygon's box, the box stands for the polygon.
 fn likely_measure(
     polygons: &Polygons,
     place: usize,
@@ -66,6 +67,9 @@ fn likely_measure(
     let high = over.wrapping_mul(over);
     if gap.wrapping_add(high) >= least {
         return least;
+    }
+    if gap > 0 {
+        return gap.wrapping_add(high);
     }
     let flat = square_outside(&polygon, asked.point).unwrap_or(0);
     least.min(flat.wrapping_add(high))

@@ -24,7 +24,7 @@ mod storey_scan;
 mod tiles;
 
 pub use boxes::box_gap;
-pub use heights::{HeightAnswer, HeightAt, height, is_place};
+pub use heights::{HeightAnswer, HeightAt, height, height_held, is_place, is_place_of};
 pub use held_points::nearest_held;
 pub use mesh_types::MeshPlace;
 pub use near::{Near, NearAnswer};

@@ -1,6 +1,6 @@
 //! The search for the nearest place in a tile, over its polygons.
 
-ghost use Rattle.std.specs.Prelude.{◌≡◌, ◌<◌, ◌≤◌, All, Some, length, slice_get};
+ghost use Rattle.std.specs.Prelude.{◌≡◌, ◌<◌, ◌≤◌, All, IsTrue, Some, length, slice_get};
 ghost use Rattle.nav_base.specs.Point.{HasCoordinates, IsCellCorner};
 ghost use Rattle.mesh_types.specs.declared.storeys.Storey.{Storey};
 ghost use Rattle.mesh_types.specs.Places.{storey_at, storey_in};
@@ -8,12 +8,11 @@ ghost use Rattle.mesh_types.specs.Reaches.{IsStoreyBetween};
 ghost use Rattle.mesh_types.specs.Soundness.{IsSound};
 ghost use Rattle.mesh_types.specs.Storeys.{IsStorey};
 ghost use Rattle.mesh_place.specs.Nearest.{CanAskNear};
-ghost use Rattle.mesh_place.specs.Searches.{IsFound, IsFoundAmong, IsPart};
-ghost use Rattle.mesh_place.specs.Bounds.{AddAtLeast, IsNearTo, square_around};
+ghost use Rattle.mesh_place.specs.Searches.{IsDone, IsFound, IsFoundAmong, IsOf, IsPart};
+ghost use Rattle.mesh_place.specs.Bounds.{AddAtLeast};
 
 use crate::bounds::{
-    ReachSquare, is_gap_beyond, is_polygon_beyond, least_part, limit, meets, reach_left,
-    square_around,
+    is_gap_beyond, is_polygon_beyond, least_part, limit, meets, reach_left, square_around,
 };
 use crate::boxes::box_gap;
 use crate::guesses::{likely_polygon, likely_reach};
@@ -25,17 +24,19 @@ use mesh_types::{
 use nav_base::Point;
 use nav_ground::TileNo;
 
-/// What was found, or a nearer place of a tile.
+/// What was found, or a nearer place of a tile. Of most polygons the box alone is looked at.
 pub(crate) fn in_tile(
     mesh: &Mesh,
     tile: TileNo,
     asked: &Near,
+    done: Option<PolyRef>,
     best: Option<MeshPlace>,
 ) -> Option<MeshPlace>
     requires sound { IsSound mesh.now }
     requires there { tile < length mesh.now.tiles }
     requires asked { CanAskNear asked.now }
     requires best { IsFound mesh.now asked.now best }
+    requires done { IsDone mesh.now asked.now done best }
     ensures { IsFoundAmong mesh.now asked.now best result (λ place. place.polygon.tile ≡ tile) }
 {
     let here = mesh.tiles.at(tile as usize).get();
@@ -46,13 +47,55 @@ pub(crate) fn in_tile(
     let square = square_around(asked.point, reach_left(climb, asked, part, best));
     let mut nearest = best;
     for i in 0..here.polys.len() {
-        let at = PolyRef {
-            tile,
-            index: i as u32,
-        };
-        nearest = in_square(mesh, at, here, &square, asked, nearest);
+        if meets(&square, here.polys.extent(i)) {
+            let at = PolyRef {
+                tile,
+                index: i as u32,
+            };
+            nearest = in_other(mesh, at, here, asked, done, nearest);
+        }
     }
     nearest
+}
+
+/// What was found, or a nearer place of a polygon, if it is not the one that was looked at before.
+fn in_other(
+    mesh: &Mesh,
+    at: PolyRef,
+    here: &TileMesh,
+    asked: &Near,
+    done: Option<PolyRef>,
+    best: Option<MeshPlace>,
+) -> Option<MeshPlace>
+    requires sound { IsSound mesh.now }
+    requires tile { slice_get mesh.now.tiles at.tile ≡ Some here.now }
+    requires there { at.index < length here.now.polys }
+    requires asked { CanAskNear asked.now }
+    requires best { IsFound mesh.now asked.now best }
+    requires done { IsDone mesh.now asked.now done best }
+    ensures { IsFoundAmong mesh.now asked.now best result (λ place. place.polygon ≡ at) }
+{
+    if is_it(done, at) {
+        return best;
+    }
+    in_polygon(mesh, at, here, asked, best)
+}
+
+/// Whether there is a polygon, and it is another one.
+fn is_it(done: Option<PolyRef>, at: PolyRef) -> bool
+    ensures { IsTrue result → done ≡ Some at }
+{
+    match done {
+        Some(done) => done.tile == at.tile && done.index == at.index,
+        None => false,
+    }
+}
+
+/// A polygon of which all places were looked at, if there is one, and what was found.
+#[derive(Clone, Copy)]
+pub struct LookedAt {
+    pub done: Option<PolyRef>,
+    pub best: Option<MeshPlace>,
 }
 
 /// What was found, or a nearer place of the polygon of a tile that is likely to have the nearest.
@@ -61,43 +104,23 @@ pub(crate) fn likely_first(
     tile: TileNo,
     asked: &Near,
     best: Option<MeshPlace>,
-) -> Option<MeshPlace>
+) -> LookedAt
     requires sound { IsSound mesh.now }
     requires there { tile < length mesh.now.tiles }
     requires asked { CanAskNear asked.now }
     requires best { IsFound mesh.now asked.now best }
-    ensures { IsFoundAmong mesh.now asked.now best result (λ place. ⊥) }
+    ensures { IsFoundAmong mesh.now asked.now best result.best (IsOf result.done) }
 {
     let here = mesh.tiles.at(tile as usize).get();
     let index = likely_polygon(&here.polys, mesh.setting.agent.climb, asked);
     if index as usize >= here.polys.len() {
-        return best;
+        return LookedAt { done: None, best };
     }
-    in_polygon(mesh, PolyRef { tile, index }, here, asked, best)
-}
-
-/// What was found, or a nearer place of a polygon that lies in a square. Of most polygons the box alone is looked at.
-fn in_square(
-    mesh: &Mesh,
-    at: PolyRef,
-    here: &TileMesh,
-    square: &ReachSquare,
-    asked: &Near,
-    best: Option<MeshPlace>,
-) -> Option<MeshPlace>
-    requires sound { IsSound mesh.now }
-    requires tile { slice_get mesh.now.tiles at.tile ≡ Some here.now }
-    requires there { at.index < length here.now.polys }
-    requires square { square.now ≡ square_around asked.now.point square.now.reach }
-    requires asked { CanAskNear asked.now }
-    requires best { IsFound mesh.now asked.now best }
-    ensures { IsFoundAmong mesh.now asked.now best result (λ place. (place.polygon ≡ at) × IsNearTo asked.now square.now.reach place) }
-{
-    let extent = here.polys.extent(at.index as usize);
-    if !meets(square, extent) {
-        return best;
+    let at = PolyRef { tile, index };
+    LookedAt {
+        done: Some(at),
+        best: in_polygon(mesh, at, here, asked, best),
     }
-    in_polygon(mesh, at, here, asked, best)
 }
 
 /// What was found, or a nearer place of a polygon. It is passed over by its box and the floors of its storey where these are too far.

@@ -5,15 +5,15 @@ ghost use Rattle.nav_ground.specs.Limits.{IsSetting};
 ghost use Rattle.nav_ground.specs.Tiling.{tiles_in_row, tile_rows};
 ghost use Rattle.mesh_types.specs.Soundness.{IsSound};
 ghost use Rattle.mesh_place.specs.Nearest.{CanAskNear};
-ghost use Rattle.mesh_place.specs.Searches.{IsFound, IsFoundAmong};
+ghost use Rattle.mesh_place.specs.Searches.{IsDone, IsFound, IsFoundAmong, IsOf};
 ghost use Rattle.mesh_place.specs.Tiles.{AreTilesAround, AreWithin, IsInTileRows, IsNearBy};
 
 use crate::bounds::reach_left;
 use crate::columns::{ReachEnds, ends_across, ends_along};
 use crate::guesses::likely_tile;
 use crate::near::Near;
-use crate::scan::{in_tile, likely_first};
-use mesh_types::{Mesh, MeshPlace};
+use crate::scan::{LookedAt, in_tile, likely_first};
+use mesh_types::{Mesh, MeshPlace, PolyRef};
 
 /// Places of tiles along one axis: from the first up to before the end.
 #[derive(Clone, Copy)]
@@ -40,21 +40,22 @@ pub(crate) fn in_tiles(mesh: &Mesh, asked: &Near, best: Option<MeshPlace>) -> Op
     ensures { IsFoundAmong mesh.now asked.now best result (IsInTileRows mesh.now (tile_rows mesh.now.setting)) }
 {
     let likely = likely_place(mesh, asked, best);
-    let reach = reach_left(mesh.setting.agent.climb, asked, 0, likely);
-    in_tile_rows(mesh, &tiles_around(mesh, asked, reach), asked, likely)
+    let reach = reach_left(mesh.setting.agent.climb, asked, 0, likely.best);
+    let around = tiles_around(mesh, asked, reach);
+    in_tile_rows(mesh, &around, asked, likely.done, likely.best)
 }
 
 /// What was found, or a nearer place of the polygon that is likely to have the nearest, in the tile that is nearest to the point.
-fn likely_place(mesh: &Mesh, asked: &Near, best: Option<MeshPlace>) -> Option<MeshPlace>
+fn likely_place(mesh: &Mesh, asked: &Near, best: Option<MeshPlace>) -> LookedAt
     requires sound { IsSound mesh.now }
     requires setting { IsSetting mesh.now.setting }
     requires asked { CanAskNear asked.now }
     requires best { IsFound mesh.now asked.now best }
-    ensures { IsFoundAmong mesh.now asked.now best result (λ place. ⊥) }
+    ensures { IsFoundAmong mesh.now asked.now best result.best (IsOf result.done) }
 {
     let tile = likely_tile(&mesh.setting, asked.point);
     if tile as usize >= mesh.tiles.len() {
-        return best;
+        return LookedAt { done: None, best };
     }
     likely_first(mesh, tile, asked, best)
 }
@@ -64,6 +65,7 @@ fn in_tile_rows(
     mesh: &Mesh,
     around: &TilesAround,
     asked: &Near,
+    done: Option<PolyRef>,
     best: Option<MeshPlace>,
 ) -> Option<MeshPlace>
     requires sound { IsSound mesh.now }
@@ -71,12 +73,13 @@ fn in_tile_rows(
     requires around { AreTilesAround mesh.now asked.now around.now }
     requires asked { CanAskNear asked.now }
     requires best { IsFound mesh.now asked.now best }
+    requires done { IsDone mesh.now asked.now done best }
     ensures { IsFoundAmong mesh.now asked.now best result
         (λ place. IsInTileRows mesh.now (tile_rows mesh.now.setting) place × IsNearBy asked.now around.now place) }
 {
     let mut nearest = best;
     for row in around.rows.first..around.rows.end {
-        nearest = in_tile_row(mesh, row, around, asked, nearest);
+        nearest = in_tile_row(mesh, row, around, asked, done, nearest);
     }
     nearest
 }
@@ -87,6 +90,7 @@ fn in_tile_row(
     row: u32,
     around: &TilesAround,
     asked: &Near,
+    done: Option<PolyRef>,
     best: Option<MeshPlace>,
 ) -> Option<MeshPlace>
     requires sound { IsSound mesh.now }
@@ -95,13 +99,14 @@ fn in_tile_row(
     requires around { AreTilesAround mesh.now asked.now around.now }
     requires asked { CanAskNear asked.now }
     requires best { IsFound mesh.now asked.now best }
+    requires done { IsDone mesh.now asked.now done best }
     ensures { IsFoundAmong mesh.now asked.now best result
         (λ place. (place.polygon.tile / tiles_in_row mesh.now.setting ≡ row) × IsNearBy asked.now around.now place) }
 {
     let first = row * mesh.setting.width.div_ceil(mesh.setting.tile);
     let mut nearest = best;
     for column in around.columns.first..around.columns.end {
-        nearest = in_tile(mesh, first + column, asked, nearest);
+        nearest = in_tile(mesh, first + column, asked, done, nearest);
     }
     nearest
 }

@@ -11,3 +11,4 @@ pub mod Version
 pub mod Registries
 pub mod Meshes
 pub mod Claims
+pub mod KindViews

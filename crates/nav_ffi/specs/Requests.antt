@@ -1,7 +1,5 @@
 -- Requests over the border: how they end, which entry they make, and what the handle holds then.
 use Rattle.std.specs.Prelude.{◌≡◌, ℕ, ◌+◌, if◌then◌else◌, length, Option, Some, None, option_map}
-use Rattle.nav_ground.specs.declared.history.Reply.{Reply}
-use Rattle.nav_ground.specs.declared.history.Reply.TheVariants.{Added, Removed, Full, Dead}
 use Rattle.nav_ground.specs.declared.history.Request.{Request}
 use Rattle.nav_ground.specs.declared.history.Request.TheVariants.{Add}
 use Rattle.nav_ground.specs.declared.shape.Shape.{Shape}
@@ -9,13 +7,7 @@ use Rattle.nav_ground.specs.Limits.{IsShape}
 use Rattle.build_queue.specs.BookState.{BookState}
 use Rattle.build_queue.specs.Steps.{is_full, next_reply, requested}
 use Rattle.nav_handle.specs.Statuses as status
-
--- how an entry with a reply ends
-abbrev pub reply_status : Reply → ℕ
-reply_status (Added number) = status.ok
-reply_status Removed = status.ok
-reply_status (Full live) = status.too_many
-reply_status (Dead number) = status.dead
+use Rattle.kinds_handle.specs.KindRequests.{reply_status}
 
 -- how a request of what a handle holds ends
 abbrev pub request_status : Option BookState → Request → ℕ

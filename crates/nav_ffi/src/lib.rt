@@ -5,10 +5,10 @@
 //! was, and its status, its counts and what it leaves in the host's arrays are those of an answer that is right in the published mesh, or what
 //! there is to draw: the definitions stand in `nav_handle` with what crosses the border (`specs/Answers.antt`, `specs/Hopping.antt`,
 //! `specs/Walking.antt`, `specs/Looking.antt` there), and in `specs/` of `way_handle`, `place_handle`, `place_way_handle`, `wall_handle` and `line_handle`. How levels
-//! are opened stands in `specs/Opening.antt`, `specs/Triangles.antt` and `specs/Meshes.antt`, what views show in `specs/Viewing.antt` and
-//! `specs/Registries.antt`, what the calls of a registry make of it in `registry_handle/specs`, its jobs in `specs/Claims.antt`, which tiles changed
-//! in `specs/Changing.antt`, the version in `specs/Version.antt`. No call asks anything of its numbers: those that are out of their limits are
-//! told so, and no others.
+//! are opened stands in `specs/Opening.antt`, `specs/Triangles.antt` and `specs/Meshes.antt`, what views show in `specs/Viewing.antt`,
+//! `specs/Registries.antt` and `specs/KindViews.antt`, what the calls of a registry make of it in `registry_handle/specs`, its jobs in
+//! `specs/Claims.antt`, what those of kinds do in `kinds_handle/specs`, which tiles changed in `specs/Changing.antt`, the version in
+//! `specs/Version.antt`. No call asks anything of its numbers: those that are out of their limits are told so, and no others.
 #![tactic(auto)]
 
 mod between;
@@ -16,6 +16,9 @@ mod changes;
 mod claims;
 mod goals;
 mod jobs;
+pub mod kind_jobs;
+pub mod kind_requests;
+pub mod kinds;
 mod lines;
 mod looking;
 mod meshes;

@@ -9,10 +9,11 @@ ghost use Rattle.nav_handle.specs.Hopping.{HopRoom, hop_asked, hop_ends, told_ho
 ghost use Rattle.nav_handle.specs.Telling.{PathRoom, told_floors, told_path, told_ray};
 ghost use Rattle.nav_handle.specs.Walking.{WalkRoom, march_asked, send_asked, told_march, told_send, walk_ends};
 ghost use Rattle.nav_handle.specs.Wire.{path_asked, ray_asked};
-ghost use Rattle.nav_ffi.specs.Counts.{AreCounted};
+ghost use Rattle.nav_ffi.specs.Counts.{AreCounted, counts_of};
 ghost use Rattle.nav_handle.specs.Statuses as status;
 
 use nav_base::Question;
+use nav_book::Level;
 use nav_ground::tiles;
 use nav_handle::{
     EMPTY, NO_MEMORY, NavdCounts, NavdFloor, NavdHop, NavdJump, NavdLevel, NavdLink, NavdPath,
@@ -144,6 +145,21 @@ pub extern "C" fn navd_march(
     march(alloc, level, walker, length, links)
 }
 
+/// What is told of a level.
+pub(crate) fn level_counts(level: &Level) -> NavdCounts
+    ensures { result ≡ counts_of level.now }
+{
+    let (polygons, links) = level.mesh_counts();
+    NavdCounts {
+        history: level.length(),
+        target: level.target(),
+        published: level.published(),
+        tiles: tiles(&level.ground().setting),
+        polygons,
+        links,
+    }
+}
+
 /// The counts of a level.
 #[unsafe(no_mangle)]
 pub extern "C" fn navd_count(alloc: Global, level: &mut NavdLevel, counts: &mut NavdCounts) -> u32
@@ -153,15 +169,7 @@ pub extern "C" fn navd_count(alloc: Global, level: &mut NavdLevel, counts: &mut 
     let Some(held) = level.take(alloc) else {
         return EMPTY;
     };
-    let (polygons, links) = held.mesh_counts();
-    *counts = NavdCounts {
-        history: held.length(),
-        target: held.target(),
-        published: held.published(),
-        tiles: tiles(&held.ground().setting),
-        polygons,
-        links,
-    };
+    *counts = level_counts(&held);
     level.put(held);
     OK
 }

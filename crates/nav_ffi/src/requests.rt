@@ -7,23 +7,13 @@ ghost use Rattle.nav_ffi.specs.Requests.{IsAddAsked, IsRequested};
 ghost use Rattle.nav_handle.specs.Wire.{block_of, cylinder_of};
 ghost use Rattle.nav_handle.specs.Statuses as status;
 
-use nav_ground::{Reply, Request, Shape};
+use kinds_handle::reply_status;
+use nav_ground::{Request, Shape};
 use nav_handle::{
-    DEAD, EMPTY, HISTORY_FULL, NavdBlock, NavdCylinder, NavdLevel, OK, OUT_OF_RANGE, TOO_MANY,
-    block_shape, cylinder_shape,
+    EMPTY, HISTORY_FULL, NavdBlock, NavdCylinder, NavdLevel, OUT_OF_RANGE, block_shape,
+    cylinder_shape,
 };
 use std::alloc::Global;
-
-/// How an entry with a reply ends.
-fn reply_status(reply: Reply) -> u32
-    ensures { result ≡ Rattle.nav_ffi.specs.Requests.reply_status reply }
-{
-    match reply {
-        Reply::Added { .. } | Reply::Removed => OK,
-        Reply::Full { .. } => TOO_MANY,
-        Reply::Dead { .. } => DEAD,
-    }
-}
 
 /// How a request ends, and the number of the entry that it made, or 0.
 fn request(alloc: Global, level: &mut NavdLevel, request: Request) -> (u32, u32)

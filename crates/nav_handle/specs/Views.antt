@@ -1,5 +1,5 @@
 -- What a reader has of a level.
-use Rattle.std.specs.Prelude.{ℕ, List, Option, Some, None, ⊤}
+use Rattle.std.specs.Prelude.{ℕ, List, Option, Some, None, IfSome, ⊤}
 use Rattle.nav_ground.specs.Limits.{IsSetting}
 use Rattle.mesh_types.specs.declared.mesh.Mesh.{Mesh}
 use Rattle.mesh_types.specs.Passages.{IsTwoWay}
@@ -7,6 +7,7 @@ use Rattle.mesh_types.specs.Soundness.{IsSound}
 use Rattle.build_queue.specs.BookState.{BookState}
 use Rattle.nav_book.specs.LevelResults.{published_mesh}
 pub use Rattle.path_queries.specs.Filters.{AreCosts, with_costs}
+use Rattle.random_place.specs.Sums.{AreSpotSums}
 use Rattle.nav_handle.specs.declared.view.MeshView.TheInside.{Inside}
 
 -- a published length, the mesh that was published with it, and the costs of areas that the reader has of its own, if there are some: then they are
@@ -43,3 +44,4 @@ pub record IsView (inside : Inside) : Type 0 where
   pub setting : IsSetting inside.mesh.setting
   pub two_way : IsTwoWay inside.mesh
   pub own : MayCost inside.own
+  pub sums : IfSome inside.sums (AreSpotSums inside.mesh)

@@ -5,6 +5,7 @@ ghost use Rattle.nav_base.specs.declared.point.Question.{Question};
 ghost use Rattle.nav_query.specs.Questions.{IsAnswerable};
 ghost use Rattle.path_queries.specs.Floods.{CanFlood};
 ghost use Rattle.path_queries.specs.FloodsBack.{IsRightFloodBack};
+ghost use Rattle.random_place.specs.Draws.{IsRightDraw};
 ghost use Rattle.nav_handle.specs.Answers.{EndsSo, IsAsked, IsRepliedBy, seen_in};
 ghost use Rattle.nav_handle.specs.Telling.{PathRoom, told_floors, told_path, told_ray};
 ghost use Rattle.nav_handle.specs.Wire.{path_asked, ray_asked};
@@ -17,7 +18,8 @@ use crate::wire::{
 };
 use mesh_types::{Answer, Asked};
 use nav_base::Question;
-use path_queries::{FloodAnswer, FloodQuery};
+use path_queries::{AskedIn, FloodAnswer, FloodQuery};
+use random_place::{DrawAnswer, DrawPlace};
 use std::alloc::Global;
 
 /// A handle of something that has a mesh, or of nothing.
@@ -41,6 +43,12 @@ pub trait HasMesh {
 
     /// The same, of a question of any kind.
     fn ask_by<Q: Asked>(&mut self, alloc: Global, question: &Q) -> Result<Q::Answer, u32>
+        requires { Q.can_ask question.now }
+        ensures same { is_same self.old self.new }
+        ensures replied { IsRepliedBy (λ mesh answer. Q.is_right question.now mesh answer) (mesh_in self.old) result };
+
+    /// The same, of a question that a search answers. The memory that a view's search works in is kept for the next.
+    fn ask_in_room<Q: AskedIn>(&mut self, alloc: Global, question: &Q) -> Result<Q::Answer, u32>
         requires { Q.can_ask question.now }
         ensures same { is_same self.old self.new }
         ensures replied { IsRepliedBy (λ mesh answer. Q.is_right question.now mesh answer) (mesh_in self.old) result };
@@ -82,6 +90,10 @@ impl HasMesh for NavdLevel {
             Err(_) => Err(NO_MEMORY),
         }
     }
+
+    fn ask_in_room<Q: AskedIn>(&mut self, alloc: Global, question: &Q) -> Result<Q::Answer, u32> {
+        self.ask_by(alloc, question)
+    }
 }
 
 impl HasMesh for NavdView {
@@ -117,6 +129,18 @@ impl HasMesh for NavdView {
             Err(_) => Err(NO_MEMORY),
         }
     }
+
+    fn ask_in_room<Q: AskedIn>(&mut self, alloc: Global, question: &Q) -> Result<Q::Answer, u32> {
+        let Some(mut held) = self.take(alloc) else {
+            return Err(EMPTY);
+        };
+        let told = held.ask_in_room(alloc, question);
+        self.put(held);
+        match told {
+            Ok(answer) => Ok(answer),
+            Err(_) => Err(NO_MEMORY),
+        }
+    }
 }
 
 impl NavdView {
@@ -127,7 +151,7 @@ impl NavdView {
         ensures same { self.new.view ≡ self.old.view }
         ensures replied { IsRepliedBy (λ mesh answer. IsRightFloodBack query.now mesh answer) (seen_in self.old.view) result }
     {
-        let Some(held) = self.take(alloc) else {
+        let Some(mut held) = self.take(alloc) else {
             return Err(EMPTY);
         };
         let told = held.flood_back(alloc, query);
@@ -136,6 +160,19 @@ impl NavdView {
             Ok(answer) => Ok(answer),
             Err(_) => Err(NO_MEMORY),
         }
+    }
+
+    /// The place that a number draws of what it shows, or the status that says why there is none.
+    pub fn draw_place(&mut self, alloc: Global, asked: DrawPlace) -> Result<DrawAnswer, u32>
+        ensures same { self.new.view ≡ self.old.view }
+        ensures replied { IsRepliedBy (λ mesh answer. IsRightDraw mesh asked answer) (seen_in self.old.view) result }
+    {
+        let Some(mut held) = self.take(alloc) else {
+            return Err(EMPTY);
+        };
+        let told = held.draw_place(alloc, asked);
+        self.put(held);
+        Ok(told)
     }
 }
 

@@ -11,6 +11,7 @@ ghost use Rattle.mesh_types.specs.Passages.{IsTwoWay};
 ghost use Rattle.mesh_types.specs.Soundness.{IsSound};
 ghost use Rattle.path_queries.specs.Floods.{CanFlood};
 ghost use Rattle.path_queries.specs.FloodsBack.{IsRightFloodBack};
+ghost use Rattle.random_place.specs.Draws.{IsRightDraw};
 
 use graph_search::Room;
 use mesh_types::{Answer, Asked, Mesh, copy_mesh};
@@ -19,7 +20,8 @@ use nav_book::Level;
 use nav_ground::{AREAS, tiles};
 use nav_lists::Shared;
 use nav_query::PreparedMesh;
-use path_queries::{FloodAnswer, FloodQuery, flood_back};
+use path_queries::{AskedIn, FloodAnswer, FloodQuery, flood_back_in};
+use random_place::{DrawAnswer, DrawPlace, SpotSums, draw_place_in};
 use std::alloc::{AllocError, Global};
 use std::marker::Model;
 use std::mem::replace;
@@ -32,8 +34,10 @@ pub struct MeshView {
     length: u32,
     mesh: PreparedMesh,
     own: Option<[u32; AREAS]>,
-    /// Memory that the searches for paths work in.
+    /// Memory that searches work in.
     room: Room,
+    /// How many spots there are up to each tile, of the areas that were last drawn from.
+    sums: Option<SpotSums>,
 }
 
 impl Model for MeshView {
@@ -58,6 +62,7 @@ impl MeshView {
             mesh,
             own: None,
             room: Room::new(alloc),
+            sums: None,
         })
     }
 
@@ -86,6 +91,7 @@ impl MeshView {
             mesh: self.mesh.share()?,
             own: self.own,
             room: Room::new(alloc),
+            sums: None,
         })
     }
 
@@ -101,6 +107,7 @@ impl MeshView {
             mesh: PreparedMesh::new(Shared::new(alloc, mesh)?),
             own: Some(costs),
             room: Room::new(alloc),
+            sums: None,
         })
     }
 
@@ -143,12 +150,39 @@ impl MeshView {
         question.ask(alloc, self.mesh.get())
     }
 
-    /// A right answer to the question from which polygons a place is reached within a cost: the links of what a level shows lead there and back.
-    pub fn flood_back(&self, alloc: Global, query: &FloodQuery) -> Result<FloodAnswer, AllocError>
-        requires { CanFlood query.now }
-        ensures right { IfOk result (λ answer. IsRightFloodBack query.now self.now.mesh answer) }
+    /// The same, of a question that a search answers. The memory that the search works in is kept for the next.
+    pub fn ask_in_room<Q: AskedIn>(
+        &mut self,
+        alloc: Global,
+        question: &Q,
+    ) -> Result<Q::Answer, AllocError>
+        requires question { Q.can_ask question.now }
+        ensures right { IfOk result (λ answer. Q.is_right question.now self.old.mesh answer) }
+        ensures same { self.new ≡ self.old }
     {
-        flood_back(alloc, self.mesh.get(), query)
+        question.ask_in(alloc, &mut self.room, self.mesh.get())
+    }
+
+    /// A right answer to the question from which polygons a place is reached within a cost: the links of what a level shows lead there and back.
+    /// The memory that the search works in is kept for the next.
+    pub fn flood_back(
+        &mut self,
+        alloc: Global,
+        query: &FloodQuery,
+    ) -> Result<FloodAnswer, AllocError>
+        requires { CanFlood query.now }
+        ensures right { IfOk result (λ answer. IsRightFloodBack query.now self.old.mesh answer) }
+        ensures same { self.new ≡ self.old }
+    {
+        flood_back_in(alloc, &mut self.room, self.mesh.get(), query)
+    }
+
+    /// The place that a number draws. The sums of the spots of its areas are kept for the next draw, where there is memory for them.
+    pub fn draw_place(&mut self, alloc: Global, asked: DrawPlace) -> DrawAnswer
+        ensures right { IsRightDraw self.old.mesh asked result }
+        ensures same { self.new ≡ self.old }
+    {
+        draw_place_in(alloc, self.mesh.get(), &mut self.sums, asked)
     }
 }
 

@@ -13,6 +13,7 @@ ghost use Rattle.nav_version.specs.VersionRule.{HasFound, IsKnownOf, IsShown, Is
 use crate::rule::{Entering, Told};
 use crate::version::{PublishedVersion, VersionReader};
 use core::mem::replace_with;
+use graph_search::Room;
 use mesh_types::{Answer, Asked};
 use nav_base::Question;
 use std::alloc::{AllocError, Global};
@@ -20,11 +21,13 @@ use std::marker::Model;
 
 /// One reader of a pair's published versions.
 ///
-/// Contracts see the pair, its ground, and the longest list of entries that the eye saw or learnt of.
+/// Contracts see the pair, its ground, and the longest list of entries that the eye saw or learnt of. It keeps the memory that a search for a path
+/// works in for the next.
 #[derive(Drop)]
 pub struct Eye {
     reader: VersionReader,
     told: Told,
+    room: Room,
 }
 
 impl Model for Eye {
@@ -62,6 +65,7 @@ fn answered<Q: Asked>(
 // The same for a question for floors, for a path or for a straight walk. It is answered by the landmarks of the version, where it has some.
 fn answered_by_landmarks(
     alloc: Global,
+    room: &mut Room,
     shown: &PublishedVersion,
     question: &Question,
     seen: &Told,
@@ -72,7 +76,7 @@ fn answered_by_landmarks(
     ensures { IfOk result (HasFound (λ mesh answer. IsRight mesh question.now answer × HasLowCost answer) (arc_value shown.now.version.ground) seen.now) }
 {
     if shown.told.goes_on(seen) {
-        let answer = shown.version.get().mesh.ask(alloc, question)?;
+        let answer = shown.version.get().mesh.ask_in(alloc, room, question)?;
         Ok((shown.told.again(), answer))
     } else {
         Err(AllocError)
@@ -100,11 +104,12 @@ fn look(
 
 impl Eye {
     // An eye whose reader knows a version of the pair.
-    pub(crate) fn opened(reader: VersionReader, told: Told) -> Eye
+    pub(crate) fn opened(alloc: Global, reader: VersionReader, told: Told) -> Eye
         requires { IsKnownOf told.pair (view reader.place) }
         ensures { result ≡ eye_of told.pair (ground_known (view reader.place)) told.entries }
     {
-        Eye { reader, told }
+        let room = Room::new(alloc);
+        Eye { reader, told, room }
     }
 
     /// Takes in a published length: what the eye answers from then on comes from versions that go on from the one which was published
@@ -148,7 +153,13 @@ impl Eye {
         ensures refused { OnErr result (HasLooked self.old self.new ⊎ (self.new ≡ self.old)) }
     {
         let shown = replace_with(&mut self.reader, (), look)?;
-        let (told, answer) = answered_by_landmarks(alloc, &shown, question, &self.told)?;
+        let (told, answer) = answered_by_landmarks(
+            alloc,
+            &mut self.room,
+            &shown,
+            question,
+            &self.told,
+        )?;
         let k = told.length();
         self.told = told;
         Ok((k, answer))

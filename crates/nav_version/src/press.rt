@@ -167,17 +167,17 @@ impl Press {
     {
         let mut eyes = Vec::with_capacity(alloc, readers as usize)?;
         for _ in 0..readers {
-            eyes.push(self.eye()?)?;
+            eyes.push(self.eye(alloc)?)?;
         }
         Ok(eyes)
     }
 
-    fn eye(&mut self) -> Result<Eye, AllocError>
+    fn eye(&mut self, alloc: Global) -> Result<Eye, AllocError>
         ensures same { self.new ≡ self.old }
         ensures eye { IfOk result (λ eye. eye ≡ first_eye self.old) }
     {
         let reader = self.stage.looker()?;
-        Ok(Eye::opened(reader, self.told()))
+        Ok(Eye::opened(alloc, reader, self.told()))
     }
 
     /// Publishes the entries so far and those of the patch, with its tiles in place, and tells the new length. It waits for eyes that still

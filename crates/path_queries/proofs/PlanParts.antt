@@ -15,8 +15,9 @@ use Rattle.mesh_types.specs.Soundness.{IsSound}
 use Rattle.mesh_types.specs.Taut.{IsTaut}
 use Rattle.graph_search.specs.declared.exploring.Limits.{Limits}
 use Rattle.path_queries.specs.declared.plans.PathQuery.{PathQuery}
-use Rattle.path_queries.specs.Plans.{CanPlan, IsLimited, IsWay}
-use Rattle.path_queries.specs.Reaches.{IsBeyondSeen, IsNearest}
+use Rattle.path_queries.specs.Plans.{CanPlan, HasNoWay, IsLimited, IsWay}
+use Rattle.path_queries.specs.declared.reach.Reach.TheVariants as reaches
+use Rattle.path_queries.specs.Reaches.{IsBeyondSeen, IsNearest, IsReach}
 use Rattle.path_queries.proofs.ReachLaws.{has-one, nearest-one}
 use Rattle.path_queries.proofs.WayParts.{ArePulled, pulled}
 
@@ -65,4 +66,15 @@ module _ (mesh : Mesh) (query : PathQuery) (first last : PolyRef) (start : IsLoc
     beyond = λ links allowed. is.beyond last links (has-one last) allowed;
     deep = is.deep;
     limited = is.limited;
+  }
+
+  -- no way
+  pub no-way-of : IsReach mesh query.filter first (last ∷ []) limits reaches.Apart → HasNoWay mesh query
+  no-way-of apart = record {
+    whole = whole;
+    first = first;
+    start = start;
+    last = last;
+    goal = goal;
+    no_walk = λ links allowed. apart last links (has-one last) allowed;
   }

@@ -12,7 +12,7 @@ ghost use Rattle.path_queries.specs.Filters.{IsFilter, costs_in};
 use crate::filtered_graph::step_cost;
 use crate::filters::{Filter, are_all_open, is_open};
 use corridor_search::{extent_at, middle, polygon_at, push_link_ends, vertex_at};
-use graph_search::{Explored, Graph, Limits, Step, Vertex, explore};
+use graph_search::{Explored, Graph, Limits, Room, Step, Vertex, explore_in};
 use mesh_types::{Mesh, PolyRef};
 use nav_ground::AREAS;
 use std::alloc::{AllocError, Global};
@@ -76,9 +76,10 @@ fn may_be_entered(mesh: &Mesh, areas: u64, at: PolyRef) -> bool
     is_open(areas, extent_at(mesh, at).area)
 }
 
-/// Searches back from a polygon through a filter within limits.
+/// Searches back from a polygon through a filter within limits, in room that an earlier search may have left.
 pub(crate) fn search_back(
     alloc: Global,
+    room: &mut Room,
     mesh: &Mesh,
     filter: &Filter,
     last: PolyRef,
@@ -98,5 +99,5 @@ pub(crate) fn search_back(
         areas: filter.areas,
         costs: &costs,
     };
-    explore(alloc, &graph, vertex_at(last), &[], limits)
+    explore_in(alloc, room, &graph, vertex_at(last), &[], limits)
 }

@@ -17,6 +17,7 @@ use crate::floods_back::flood_to;
 use crate::leaving::{inner, outer};
 use crate::nearest::Goal;
 use crate::plans::{PathQuery, PlanAnswer, WayEnd, least_floor, plan, turns};
+use graph_search::Room;
 use mesh_locate::locate;
 use mesh_types::{Link, Mesh, PathFound, PolyRef};
 use nav_lists::Items;
@@ -40,10 +41,31 @@ pub fn plans_to(
     requires filter { IsFilter filter.now }
     ensures right { IfOk result (λ answers. AreRightPlans mesh.now goal filter.now starts.now answers.items) }
 {
+    let mut room = Room::new(alloc);
+    plans_to_in(alloc, &mut room, mesh, starts, goal, filter)
+}
+
+/// The same, in room that an earlier search may have left.
+pub fn plans_to_in(
+    alloc: Global,
+    room: &mut Room,
+    mesh: &Mesh,
+    starts: &[Goal],
+    goal: Goal,
+    filter: &Filter,
+) -> Result<Vec<PlanAnswer>, AllocError>
+    requires sound { IsSound mesh.now }
+    requires setting { IsSetting mesh.now.setting }
+    requires two_way { IsTwoWay mesh.now }
+    requires starts { All HasGoalCoordinates starts.now }
+    requires goal { HasGoalCoordinates goal }
+    requires filter { IsFilter filter.now }
+    ensures right { IfOk result (λ answers. AreRightPlans mesh.now goal filter.now starts.now answers.items) }
+{
     let Some(last) = locate(mesh, goal.point, goal.y) else {
         return one_by_one(alloc, mesh, starts, goal, filter);
     };
-    let list = flood_to(alloc, mesh, filter, last, u64::MAX)?;
+    let list = flood_to(alloc, room, mesh, filter, last, u64::MAX)?;
     let polygons = list.as_slice();
     let guesses = guesses(alloc, mesh, polygons)?;
     let flood = IndexedFlood {

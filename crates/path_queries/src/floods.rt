@@ -8,11 +8,12 @@ ghost use Rattle.corridor_search.specs.MeshGraphs.{IsThere, polygon_of};
 ghost use Rattle.path_queries.specs.Floods.{CanFlood, IsRightFlood};
 ghost use Rattle.path_queries.specs.Searches.{AreViaNoLater, flooded_of};
 
+use crate::asking::AskedIn;
 use crate::filtered_graph::leads_on;
 use crate::filters::Filter;
-use crate::searches::search_through;
+use crate::searches::{Sought, search_through};
 use corridor_search::polygon_at;
-use graph_search::{Limits, ReachedVertex};
+use graph_search::{Limits, ReachedVertex, Room};
 use mesh_locate::locate;
 use mesh_types::{Asked, Mesh, PolyRef};
 use nav_base::Point;
@@ -54,14 +55,34 @@ pub fn flood(alloc: Global, mesh: &Mesh, query: &FloodQuery) -> Result<FloodAnsw
     requires query { CanFlood query.now }
     ensures right { IfOk result (λ answer. IsRightFlood query.now mesh.now answer) }
 {
+    let mut room = Room::new(alloc);
+    flood_in(alloc, &mut room, mesh, query)
+}
+
+/// The same, in room that an earlier search may have left.
+pub fn flood_in(
+    alloc: Global,
+    room: &mut Room,
+    mesh: &Mesh,
+    query: &FloodQuery,
+) -> Result<FloodAnswer, AllocError>
+    requires sound { IsSound mesh.now }
+    requires setting { IsSetting mesh.now.setting }
+    requires query { CanFlood query.now }
+    ensures right { IfOk result (λ answer. IsRightFlood query.now mesh.now answer) }
+{
     let Some(first) = locate(mesh, query.at, query.y) else {
         return Ok(FloodAnswer::NoStart);
     };
-    let limits = Limits {
-        key: query.most_cost,
-        count: usize::MAX,
+    let sought = Sought {
+        from: first,
+        goals: &[],
+        limits: Limits {
+            key: query.most_cost,
+            count: usize::MAX,
+        },
     };
-    let found = search_through(alloc, mesh, &query.filter, first, &[], limits)?;
+    let found = search_through(alloc, room, mesh, &query.filter, sought)?;
     let list = polygons_of(
         alloc,
         mesh,
@@ -81,6 +102,17 @@ impl Asked for FloodQuery {
 
     fn ask(&self, alloc: Global, mesh: &Mesh) -> Result<FloodAnswer, AllocError> {
         flood(alloc, mesh, self)
+    }
+}
+
+impl AskedIn for FloodQuery {
+    fn ask_in(
+        &self,
+        alloc: Global,
+        room: &mut Room,
+        mesh: &Mesh,
+    ) -> Result<FloodAnswer, AllocError> {
+        flood_in(alloc, room, mesh, self)
     }
 }
 

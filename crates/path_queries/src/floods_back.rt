@@ -13,7 +13,7 @@ ghost use Rattle.path_queries.specs.FloodsBack.{IsRightFloodBack, IsWholeFloodBa
 use crate::back_graph::search_back;
 use crate::filters::Filter;
 use crate::floods::{FloodAnswer, FloodQuery, Flooded};
-use graph_search::{Limits, ReachedVertex};
+use graph_search::{Limits, ReachedVertex, Room};
 use mesh_locate::locate;
 use mesh_types::{Mesh, PolyRef};
 use nav_lists::Items;
@@ -31,16 +31,34 @@ pub fn flood_back(alloc: Global, mesh: &Mesh, query: &FloodQuery) -> Result<Floo
     requires query { CanFlood query.now }
     ensures right { IfOk result (λ answer. IsRightFloodBack query.now mesh.now answer) }
 {
+    let mut room = Room::new(alloc);
+    flood_back_in(alloc, &mut room, mesh, query)
+}
+
+/// The same, in room that an earlier search may have left.
+pub fn flood_back_in(
+    alloc: Global,
+    room: &mut Room,
+    mesh: &Mesh,
+    query: &FloodQuery,
+) -> Result<FloodAnswer, AllocError>
+    requires sound { IsSound mesh.now }
+    requires setting { IsSetting mesh.now.setting }
+    requires two_way { IsTwoWay mesh.now }
+    requires query { CanFlood query.now }
+    ensures right { IfOk result (λ answer. IsRightFloodBack query.now mesh.now answer) }
+{
     let Some(last) = locate(mesh, query.at, query.y) else {
         return Ok(FloodAnswer::NoStart);
     };
-    let list = flood_to(alloc, mesh, &query.filter, last, query.most_cost)?;
+    let list = flood_to(alloc, room, mesh, &query.filter, last, query.most_cost)?;
     Ok(FloodAnswer::Flooded(list))
 }
 
 /// The flood back from a polygon, up to a cost.
 pub(crate) fn flood_to(
     alloc: Global,
+    room: &mut Room,
     mesh: &Mesh,
     filter: &Filter,
     last: PolyRef,
@@ -57,7 +75,7 @@ pub(crate) fn flood_to(
         key: most_cost,
         count: usize::MAX,
     };
-    let found = search_back(alloc, mesh, filter, last, limits)?;
+    let found = search_back(alloc, room, mesh, filter, last, limits)?;
     let list = polygons_back(alloc, found.reached.as_slice())?;
     Ok(Items::from_vec(list))
 }

@@ -10,11 +10,13 @@
 //! `flood` gives the polygons to which allowed walks lead within a cost, each with what the cheapest of them costs. `nearest_goal` tells which
 //! of many goals the cheapest allowed walk leads to, by one search. `flood_back` gives the polygons from which allowed walks lead to a place
 //! within a cost, and `plans_to` answers the questions for ways from many places to one goal, by one search back from it: both ask that
-//! the links of the mesh lead there and back.
+//! the links of the mesh lead there and back. Each of them is one search; those whose names end in `_in` work in room that an earlier search
+//! may have left.
 //!
 //! Points are in sixteenths of a cell, heights in the unit of the floors.
 #![tactic(auto)]
 
+mod asking;
 mod back_graph;
 mod batch;
 mod filtered_graph;
@@ -29,12 +31,16 @@ pub mod reach;
 mod searches;
 mod spots;
 
-pub use batch::plans_to;
+pub use asking::AskedIn;
+pub use batch::{plans_to, plans_to_in};
 pub use filtered_graph::step_cost;
 pub use filters::{Filter, is_open};
-pub use floods::{FloodAnswer, FloodQuery, Flooded, flood};
-pub use floods_back::flood_back;
+pub use floods::{FloodAnswer, FloodQuery, Flooded, flood, flood_in};
+pub use floods_back::{flood_back, flood_back_in};
 pub use leaving::{inner, outer};
 pub use mesh_types::PathFound;
-pub use nearest::{Goal, NearestAnswer, NearestQuery, nearest_goal};
-pub use plans::{PathQuery, PlanAnswer, WayEnd, cheapest_allowed, plan, turns};
+pub use nearest::{Goal, NearestAnswer, NearestQuery, nearest_goal, nearest_goal_in};
+pub use plans::{
+    PathQuery, PlanAnswer, WalkEnds, WayEnd, cheapest_allowed, cheapest_allowed_in, plan, plan_in,
+    turns,
+};

@@ -10,11 +10,13 @@ ghost use Rattle.path_queries.specs.HeldGoals.{AreHeldGoals, polygons_held, poly
 ghost use Rattle.path_queries.specs.NearestGoals.{AreAlikeNearest, CanAskNearest, HasGoalCoordinates, HasLowNearestCost, IsNearestGoal, IsRightNearest};
 ghost use Rattle.path_queries.specs.Reaches.{IsReach};
 
+use crate::asking::AskedIn;
 use crate::filtered_graph::leads_on;
 use crate::filters::Filter;
 use crate::plans::turns;
 use crate::reach::{Reach, cheapest_to};
-use graph_search::Limits;
+use crate::searches::Sought;
+use graph_search::{Limits, Room};
 use mesh_locate::locate;
 use mesh_types::{Asked, Mesh, PathFound, PolyRef};
 use nav_base::Point;
@@ -77,7 +79,26 @@ pub fn nearest_goal(
     ensures only { IfOk result (λ answer. query.now.most_cost ≡ 18446744073709551615 → (other : NearestAnswer)
         → IsNearestGoal query.now mesh.now other → AreAlikeNearest answer other) }
 {
-    right_nearest(alloc, mesh, query)
+    let mut room = Room::new(alloc);
+    nearest_goal_in(alloc, &mut room, mesh, query)
+}
+
+/// The same, in room that an earlier search may have left.
+pub fn nearest_goal_in(
+    alloc: Global,
+    room: &mut Room,
+    mesh: &Mesh,
+    query: &NearestQuery,
+) -> Result<NearestAnswer, AllocError>
+    requires sound { IsSound mesh.now }
+    requires setting { IsSetting mesh.now.setting }
+    requires query { CanAskNearest query.now }
+    ensures right { IfOk result (λ answer. IsNearestGoal query.now mesh.now answer) }
+    ensures low_cost { IfOk result HasLowNearestCost }
+    ensures only { IfOk result (λ answer. query.now.most_cost ≡ 18446744073709551615 → (other : NearestAnswer)
+        → IsNearestGoal query.now mesh.now other → AreAlikeNearest answer other) }
+{
+    right_nearest(alloc, room, mesh, query)
 }
 
 impl Asked for NearestQuery {
@@ -92,9 +113,21 @@ impl Asked for NearestQuery {
     }
 }
 
+impl AskedIn for NearestQuery {
+    fn ask_in(
+        &self,
+        alloc: Global,
+        room: &mut Room,
+        mesh: &Mesh,
+    ) -> Result<NearestAnswer, AllocError> {
+        nearest_goal_in(alloc, room, mesh, self)
+    }
+}
+
 /// The same, with no more said of it than that it is right and costs little.
 fn right_nearest(
     alloc: Global,
+    room: &mut Room,
     mesh: &Mesh,
     query: &NearestQuery,
 ) -> Result<NearestAnswer, AllocError>
@@ -111,11 +144,7 @@ fn right_nearest(
     if held.is_empty() {
         return Ok(NearestAnswer::NoGoal);
     }
-    let limits = Limits {
-        key: query.most_cost,
-        count: usize::MAX,
-    };
-    match cheapest_to_held(alloc, mesh, &query.filter, first, held.as_slice(), limits)? {
+    match cheapest_to_held(alloc, room, mesh, query, first, held.as_slice())? {
         Reach::Found { at, corridor } => {
             let which = place_of(held.as_slice(), at);
             let goal = query.goals.as_slice()[which];
@@ -161,27 +190,36 @@ fn held_goals(alloc: Global, mesh: &Mesh, goals: &[Goal]) -> Result<Vec<HeldGoal
     Ok(held)
 }
 
-/// The nearest of goals, within limits.
+/// The nearest of the goals of a question that polygons hold, within its limit.
 fn cheapest_to_held(
     alloc: Global,
+    room: &mut Room,
     mesh: &Mesh,
-    filter: &Filter,
-    from: PolyRef,
+    query: &NearestQuery,
+    first: PolyRef,
     held: &[HeldGoal],
-    limits: Limits,
 ) -> Result<Reach, AllocError>
     requires sound { IsSound mesh.now }
     requires setting { IsSetting mesh.now.setting }
-    requires filter { IsFilter filter.now }
-    requires from { IsThere mesh.now from }
+    requires filter { IsFilter query.now.filter }
+    requires first { IsThere mesh.now first }
     requires held { All (IsThere mesh.now) (polygons_held held.now) }
-    ensures { IfOk result (IsReach mesh.now filter.now from (polygons_held held.now) limits) }
+    ensures { IfOk result (IsReach mesh.now query.now.filter first (polygons_held held.now)
+        (record { key = query.now.most_cost; count = 18446744073709551615 })) }
 {
-    let ends = open_polygons(alloc, mesh, filter.areas, from, held)?;
+    let ends = open_polygons(alloc, mesh, query.filter.areas, first, held)?;
     if ends.is_empty() {
         return Ok(Reach::Apart);
     }
-    cheapest_to(alloc, mesh, filter, from, ends.as_slice(), limits)
+    let sought = Sought {
+        from: first,
+        goals: ends.as_slice(),
+        limits: Limits {
+            key: query.most_cost,
+            count: usize::MAX,
+        },
+    };
+    cheapest_to(alloc, room, mesh, &query.filter, sought)
 }
 
 /// The polygons of goals at which walks may end. The others are looked for in vain.

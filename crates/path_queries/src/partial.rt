@@ -14,33 +14,40 @@ ghost use Rattle.path_queries.specs.Reached.{AreOpenGoals, IsReachedList, IsWayT
 use crate::filtered_graph::leads_on;
 use crate::plans::{PathQuery, PlanAnswer, WayEnd, least_floor, turns};
 use crate::reach::{is_goal, links_along};
-use crate::searches::search_through;
+use crate::searches::{Sought, search_through};
 use crate::spots::{Toward, nearest_spot};
 use corridor_search::polygon_at;
-use graph_search::{Limits, ReachedVertex, reached_walk};
+use graph_search::{Limits, ReachedVertex, Room, reached_walk};
 use mesh_locate::locate;
 use mesh_types::{Mesh, PathFound, PolyRef};
 use std::alloc::{AllocError, Global};
 
+/// Where a partial way begins, and how many sixteenths of a cell each unit of height counts.
+#[derive(Clone, Copy)]
+pub(crate) struct PartialStart {
+    pub(crate) first: PolyRef,
+    pub(crate) rise: u32,
+}
+
 /// A right answer where a partial way is asked for and a polygon locates the start.
 pub(crate) fn partial_plan(
     alloc: Global,
+    room: &mut Room,
     mesh: &Mesh,
     query: &PathQuery,
-    rise: u32,
-    first: PolyRef,
+    start: PartialStart,
 ) -> Result<PlanAnswer, AllocError>
     requires sound { IsSound mesh.now }
     requires setting { IsSetting mesh.now.setting }
     requires query { CanPlan query.now }
-    requires partial { query.now.partial ≡ Some rise }
-    requires start { IsLocated mesh.now query.now.from query.now.from_y first }
+    requires partial { query.now.partial ≡ Some start.rise }
+    requires start { IsLocated mesh.now query.now.from query.now.from_y start.first }
     ensures right { IfOk result (λ answer. IsPlan query.now mesh.now answer) }
     ensures low_cost { IfOk result HasLowWayCost }
 {
-    match open_goal(mesh, query, first) {
-        Some(goal) => plan_toward(alloc, mesh, query, rise, first, &[goal]),
-        None => plan_toward(alloc, mesh, query, rise, first, &[]),
+    match open_goal(mesh, query, start.first) {
+        Some(goal) => plan_toward(alloc, room, mesh, query, start, &[goal]),
+        None => plan_toward(alloc, room, mesh, query, start, &[]),
     }
 }
 
@@ -65,26 +72,31 @@ fn open_goal(mesh: &Mesh, query: &PathQuery, first: PolyRef) -> Option<PolyRef>
 /// The same, by one search up to the goal, if walks may end there.
 fn plan_toward(
     alloc: Global,
+    room: &mut Room,
     mesh: &Mesh,
     query: &PathQuery,
-    rise: u32,
-    first: PolyRef,
+    start: PartialStart,
     goals: &[PolyRef],
 ) -> Result<PlanAnswer, AllocError>
     requires sound { IsSound mesh.now }
     requires setting { IsSetting mesh.now.setting }
     requires query { CanPlan query.now }
-    requires partial { query.now.partial ≡ Some rise }
-    requires start { IsLocated mesh.now query.now.from query.now.from_y first }
-    requires goals { AreOpenGoals mesh.now query.now first goals.now }
+    requires partial { query.now.partial ≡ Some start.rise }
+    requires start { IsLocated mesh.now query.now.from query.now.from_y start.first }
+    requires goals { AreOpenGoals mesh.now query.now start.first goals.now }
     ensures right { IfOk result (λ answer. IsPlan query.now mesh.now answer) }
     ensures low_cost { IfOk result HasLowWayCost }
 {
-    let limits = Limits {
-        key: query.most_cost,
-        count: query.most_polygons,
+    let PartialStart { first, rise } = start;
+    let sought = Sought {
+        from: first,
+        goals,
+        limits: Limits {
+            key: query.most_cost,
+            count: query.most_polygons,
+        },
     };
-    let found = search_through(alloc, mesh, &query.filter, first, goals, limits)?;
+    let found = search_through(alloc, room, mesh, &query.filter, sought)?;
     let reached = found.reached.as_slice();
     let last = reached.len() - 1;
     let at = polygon_at(reached[last].vertex);

@@ -16,12 +16,14 @@ ghost use Rattle.path_queries.specs.Filters.{AreAllOpen, IsFilter};
 ghost use Rattle.path_queries.specs.Plans.{AreAlikePlans, CanPlan, HasLowWayCost, HasNoLimits, IsPlan, IsPlanAsPath, IsRightPlan};
 ghost use Rattle.path_queries.specs.Reaches.{IsReach};
 
+use crate::asking::AskedIn;
 use crate::filtered_graph::leads_on;
 use crate::filters::Filter;
-use crate::partial::partial_plan;
+use crate::partial::{PartialStart, partial_plan};
 use crate::reach::{Reach, cheapest_to};
+use crate::searches::Sought;
 use funnel_path::pull;
-use graph_search::Limits;
+use graph_search::{Limits, Room};
 use mesh_locate::locate;
 use mesh_types::{Asked, Corner, Link, Mesh, PathFound, PolyRef, Portal, poly};
 use nav_base::Point;
@@ -97,11 +99,37 @@ pub fn plan(alloc: Global, mesh: &Mesh, query: &PathQuery) -> Result<PlanAnswer,
     ensures as_path { IfOk result (λ answer. HasNoLimits query.now → AreAllOpen query.now.filter.areas → query.now.filter.costs ≡ None
         → (path : Answer) → IsRightPath mesh.now query.now.from query.now.from_y query.now.goal query.now.goal_y path → IsPlanAsPath answer path) }
 {
-    right_plan(alloc, mesh, query)
+    let mut room = Room::new(alloc);
+    plan_in(alloc, &mut room, mesh, query)
+}
+
+/// The same, in room that an earlier search may have left.
+pub fn plan_in(
+    alloc: Global,
+    room: &mut Room,
+    mesh: &Mesh,
+    query: &PathQuery,
+) -> Result<PlanAnswer, AllocError>
+    requires sound { IsSound mesh.now }
+    requires setting { IsSetting mesh.now.setting }
+    requires query { CanPlan query.now }
+    ensures right { IfOk result (λ answer. IsPlan query.now mesh.now answer) }
+    ensures low_cost { IfOk result HasLowWayCost }
+    ensures only { IfOk result (λ answer. HasNoLimits query.now → (other : PlanAnswer) → IsPlan query.now mesh.now other
+        → AreAlikePlans query.now mesh.now answer other) }
+    ensures as_path { IfOk result (λ answer. HasNoLimits query.now → AreAllOpen query.now.filter.areas → query.now.filter.costs ≡ None
+        → (path : Answer) → IsRightPath mesh.now query.now.from query.now.from_y query.now.goal query.now.goal_y path → IsPlanAsPath answer path) }
+{
+    right_plan(alloc, room, mesh, query)
 }
 
 /// The same, with no more said of it than that it is right and costs little.
-fn right_plan(alloc: Global, mesh: &Mesh, query: &PathQuery) -> Result<PlanAnswer, AllocError>
+fn right_plan(
+    alloc: Global,
+    room: &mut Room,
+    mesh: &Mesh,
+    query: &PathQuery,
+) -> Result<PlanAnswer, AllocError>
     requires sound { IsSound mesh.now }
     requires setting { IsSetting mesh.now.setting }
     requires query { CanPlan query.now }
@@ -112,14 +140,15 @@ fn right_plan(alloc: Global, mesh: &Mesh, query: &PathQuery) -> Result<PlanAnswe
         return Ok(PlanAnswer::NoStart);
     };
     match query.partial {
-        Some(rise) => partial_plan(alloc, mesh, query, rise, first),
-        None => whole_plan(alloc, mesh, query, first),
+        Some(rise) => partial_plan(alloc, room, mesh, query, PartialStart { first, rise }),
+        None => whole_plan(alloc, room, mesh, query, first),
     }
 }
 
 /// A right answer where no partial way is asked for and a polygon locates the start.
 fn whole_plan(
     alloc: Global,
+    room: &mut Room,
     mesh: &Mesh,
     query: &PathQuery,
     first: PolyRef,
@@ -139,7 +168,11 @@ fn whole_plan(
         key: query.most_cost,
         count: query.most_polygons,
     };
-    match cheapest_allowed(alloc, mesh, &query.filter, first, last, limits)? {
+    let ends = WalkEnds {
+        from: first,
+        to: last,
+    };
+    match cheapest_allowed_in(alloc, room, mesh, &query.filter, ends, limits)? {
         Reach::Found { corridor, .. } => {
             let turns = turns(alloc, query.from, corridor.links.as_slice(), query.goal)?;
             let way = PathFound {
@@ -182,6 +215,24 @@ impl Asked for PathQuery {
     }
 }
 
+impl AskedIn for PathQuery {
+    fn ask_in(
+        &self,
+        alloc: Global,
+        room: &mut Room,
+        mesh: &Mesh,
+    ) -> Result<PlanAnswer, AllocError> {
+        plan_in(alloc, room, mesh, self)
+    }
+}
+
+/// The polygons in which a walk begins and ends.
+#[derive(Clone, Copy)]
+pub struct WalkEnds {
+    pub from: PolyRef,
+    pub to: PolyRef,
+}
+
 /// A cheapest allowed walk from one polygon to another, within limits. Only memory can be refused.
 pub fn cheapest_allowed(
     alloc: Global,
@@ -198,10 +249,43 @@ pub fn cheapest_allowed(
     requires to { IsThere mesh.now to }
     ensures { IfOk result (IsReach mesh.now filter.now from (to ∷ []) limits) }
 {
+    let mut room = Room::new(alloc);
+    cheapest_allowed_in(
+        alloc,
+        &mut room,
+        mesh,
+        filter,
+        WalkEnds { from, to },
+        limits,
+    )
+}
+
+/// The same, in room that an earlier search may have left.
+pub fn cheapest_allowed_in(
+    alloc: Global,
+    room: &mut Room,
+    mesh: &Mesh,
+    filter: &Filter,
+    ends: WalkEnds,
+    limits: Limits,
+) -> Result<Reach, AllocError>
+    requires sound { IsSound mesh.now }
+    requires setting { IsSetting mesh.now.setting }
+    requires filter { IsFilter filter.now }
+    requires from { IsThere mesh.now ends.from }
+    requires to { IsThere mesh.now ends.to }
+    ensures { IfOk result (IsReach mesh.now filter.now ends.from (ends.to ∷ []) limits) }
+{
+    let WalkEnds { from, to } = ends;
     if !leads_on(mesh, filter.areas, from, to) {
         return Ok(Reach::Apart);
     }
-    cheapest_to(alloc, mesh, filter, from, &[to], limits)
+    let sought = Sought {
+        from,
+        goals: &[to],
+        limits,
+    };
+    cheapest_to(alloc, room, mesh, filter, sought)
 }
 
 /// The corners of a taut line from one place to another through the portals of links.

@@ -12,9 +12,9 @@ ghost use Rattle.path_queries.specs.FilteredGraphs.{leads_on};
 ghost use Rattle.path_queries.specs.Reaches.{IsReach};
 
 use crate::filters::Filter;
-use crate::searches::search_through;
+use crate::searches::{Sought, search_through};
 use corridor_search::{link_at, polygon_at};
-use graph_search::{Limits, Step, reached_walk};
+use graph_search::{Room, Step, reached_walk};
 use mesh_types::{Corridor, Link, Mesh, PolyRef};
 use nav_lists::Items;
 use std::alloc::{AllocError, Global};
@@ -30,28 +30,27 @@ pub enum Reach {
     Apart,
 }
 
-/// The nearest of some goals from which walks may lead on, within limits.
+/// The nearest of some goals from which walks may lead on, within limits, by a search in room that an earlier one may have left.
 pub(crate) fn cheapest_to(
     alloc: Global,
+    room: &mut Room,
     mesh: &Mesh,
     filter: &Filter,
-    from: PolyRef,
-    goals: &[PolyRef],
-    limits: Limits,
+    sought: Sought<'_>,
 ) -> Result<Reach, AllocError>
     requires sound { IsSound mesh.now }
     requires setting { IsSetting mesh.now.setting }
     requires filter { IsFilter filter.now }
-    requires from { IsThere mesh.now from }
-    requires goals { All (IsThere mesh.now) goals.now }
-    requires lead_on { (goal : PolyRef) → Contains goals.now goal → leads_on mesh.now filter.now.areas from goal ≡ true }
-    ensures { IfOk result (IsReach mesh.now filter.now from goals.now limits) }
+    requires from { IsThere mesh.now sought.from }
+    requires goals { All (IsThere mesh.now) sought.goals.now }
+    requires lead_on { (goal : PolyRef) → Contains sought.goals.now goal → leads_on mesh.now filter.now.areas sought.from goal ≡ true }
+    ensures { IfOk result (IsReach mesh.now filter.now sought.entry.from sought.entry.goals.now sought.entry.limits) }
 {
-    let found = search_through(alloc, mesh, filter, from, goals, limits)?;
+    let found = search_through(alloc, room, mesh, filter, sought)?;
     let reached = found.reached.as_slice();
     let last = reached.len() - 1;
     let at = polygon_at(reached[last].vertex);
-    if is_goal(goals, at) {
+    if is_goal(sought.goals, at) {
         let walk = reached_walk(alloc, reached, last)?;
         let links = links_along(alloc, mesh, walk.steps.as_slice())?;
         let cost = walk.cost;

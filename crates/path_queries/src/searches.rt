@@ -14,30 +14,39 @@ ghost use Rattle.path_queries.specs.Searches.{IsHeadingFor, IsSearchedThrough};
 use crate::filtered_graph::FilteredGraph;
 use crate::filters::{Filter, least_cost, search_costs};
 use corridor_search::{extent_at, middle, vertex_at};
-use graph_search::{Explored, Limits, Vertex, explore};
+use graph_search::{Explored, Limits, Room, Vertex, explore_in};
 use mesh_types::{Mesh, PolyRef};
 use nav_base::Point;
 use nav_ground::AREAS;
 use std::alloc::{AllocError, Global};
 
-/// Searches from a polygon through a filter within limits, up to the first of some goals.
+/// What a search is to do: it begins in a polygon, and ends at the first of some goals, or at a limit.
+#[derive(Clone, Copy)]
+pub(crate) struct Sought<'a> {
+    pub(crate) from: PolyRef,
+    pub(crate) goals: &'a [PolyRef],
+    pub(crate) limits: Limits,
+}
+
+/// Searches through a filter, in room that an earlier search may have left.
 pub(crate) fn search_through(
     alloc: Global,
+    room: &mut Room,
     mesh: &Mesh,
     filter: &Filter,
-    from: PolyRef,
-    goals: &[PolyRef],
-    limits: Limits,
+    sought: Sought<'_>,
 ) -> Result<Explored, AllocError>
     requires sound { IsSound mesh.now }
     requires setting { IsSetting mesh.now.setting }
     requires filter { IsFilter filter.now }
-    requires from { IsThere mesh.now from }
-    requires goals { All (IsThere mesh.now) goals.now }
-    ensures { IfOk result (λ found. IsSearchedThrough mesh.now filter.now from goals.now limits found.reached.items found.seen) }
+    requires from { IsThere mesh.now sought.from }
+    requires goals { All (IsThere mesh.now) sought.goals.now }
+    ensures { IfOk result (λ found. IsSearchedThrough mesh.now filter.now sought.entry.from sought.entry.goals.now sought.entry.limits
+        found.reached.items found.seen) }
 {
+    let from = sought.from;
     let costs = filter.costs.unwrap_or(mesh.setting.costs);
-    let heading = heading_for(mesh, filter.areas, &costs, goals);
+    let heading = heading_for(mesh, filter.areas, &costs, sought.goals);
     let graph = FilteredGraph {
         mesh,
         areas: filter.areas,
@@ -46,8 +55,9 @@ pub(crate) fn search_through(
         aim: heading.aim,
         least: heading.least,
     };
-    let stops = vertices(alloc, goals)?;
-    explore(alloc, &graph, vertex_at(from), stops.as_slice(), limits)
+    let stops = vertices(alloc, sought.goals)?;
+    let stops = stops.as_slice();
+    explore_in(alloc, room, &graph, vertex_at(from), stops, sought.limits)
 }
 
 /// The vertices of polygons, in order.

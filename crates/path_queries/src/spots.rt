@@ -61,7 +61,11 @@ pub(crate) fn nearest_spot(
     nearest
 }
 
-/// The place of the polygon whose box is nearest to a point: it is likely to have the nearest spot.
+/// One in so many polygons is looked at for a first spot.
+const PART: usize = 16;
+
+/// The place of the polygon whose box is nearest to a point, of a part of all: its spot is likely to be near enough that most of the others are
+/// passed over.
 fn likely_place(
     mesh: &Mesh,
     areas: u64,
@@ -77,7 +81,8 @@ fn likely_place(
 {
     let mut likely = 0;
     let mut least = u64::MAX;
-    for place in 0..reached.len() {
+    for part in 0..reached.len() / PART {
+        let place = part * PART;
         let at = polygon_at(reached[place].vertex);
         if leads_on(mesh, areas, first, at) {
             let gap = box_gap(extent_at(mesh, at), p);
@@ -90,7 +95,8 @@ fn likely_place(
     likely
 }
 
-/// What was found, or the spot of the polygon at a place, if that is nearer. Of most polygons the box and the floors alone are looked at.
+/// What was found, or the spot of the polygon at a place, if that is nearer. Of most polygons the box alone is looked at, and of most others
+/// the box and the floors.
 fn nearer_spot(
     mesh: &Mesh,
     reached: &[ReachedVertex],
@@ -106,8 +112,12 @@ fn nearer_spot(
     ensures { IsNearerSpot mesh.now toward reached.now place nearest result }
 {
     let at = polygon_at(reached[place].vertex);
+    let gap = box_gap(extent_at(mesh, at), toward.goal);
+    if is_farther(gap, nearest.near) {
+        return nearest;
+    }
     let polygon = polygon_there(mesh, at);
-    let in_box = box_gap(extent_at(mesh, at), toward.goal) + square_rise(&polygon, toward);
+    let in_box = gap + square_rise(&polygon, toward);
     if is_farther(in_box, nearest.near) {
         return nearest;
     }

@@ -1,13 +1,13 @@
 //! The place that a number draws.
 
-ghost use Rattle.std.specs.Prelude.{Option};
+ghost use Rattle.std.specs.Prelude.{◌≡◌, Option};
 ghost use Rattle.mesh_types.specs.declared.mesh.Mesh.{Mesh};
-ghost use Rattle.nav_handle.specs.Answers.{IsAskedBy, IsRepliedBy};
+ghost use Rattle.nav_handle.specs.Answers.{IsAskedBy, IsRepliedBy, seen_in};
 ghost use Rattle.place_handle.specs.Drawing.{IsDrawnBy, draw_asked, draw_ends, told_draw};
 ghost use Rattle.random_place.specs.declared.draws.DrawPlace.{DrawPlace};
 
 use crate::places::{NO_PLACE, NavdPlace, place_told};
-use nav_handle::{CUT, HasMesh, OK};
+use nav_handle::{CUT, NavdView, OK};
 use random_place::{DrawAnswer, DrawPlace};
 use std::alloc::Global;
 
@@ -27,17 +27,17 @@ fn end_draw(answer: Result<DrawAnswer, u32>, place: &mut NavdPlace) -> u32
     }
 }
 
-/// The place that a number draws in the mesh of a handle, of the cells of some areas, bit a for area a.
-pub fn draw_place<H: HasMesh>(
+/// The place that a number draws in the mesh that a view shows, of the cells of some areas, bit a for area a.
+pub fn draw_place(
     alloc: Global,
-    held: &mut H,
+    view: &mut NavdView,
     areas: u64,
     draw: u64,
     place: &mut NavdPlace,
 ) -> u32
-    ensures asked { IsAskedBy (IsDrawnBy (draw_asked areas draw)) draw_ends told_draw (H.mesh_in held.old) place.old place.new result }
-    ensures same { H.is_same held.old held.new }
+    ensures asked { IsAskedBy (IsDrawnBy (draw_asked areas draw)) draw_ends told_draw (seen_in view.old.view) place.old place.new result }
+    ensures same { view.new.view ≡ view.old.view }
 {
-    let answer = held.ask_by(alloc, &DrawPlace { areas, draw });
+    let answer = view.draw_place(alloc, DrawPlace { areas, draw });
     end_draw(answer, place)
 }

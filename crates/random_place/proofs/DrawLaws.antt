@@ -1,7 +1,7 @@
 -- The polygons over spots; the places over them stand; one answer alone is right.
-use Rattle.std.proofs.Common.{◌≡◌, ℕ, ◌*◌, ◌/◌, ◌≤◌, ◌<◌, ◌⊎◌, inl, inr, List, [], length, refl, sym, ap, subst, ◌∙◌, arith}
-use Rattle.std.specs.Prelude.{Option, Some, None, option_and_then, slice_get}
-use Rattle.std.proofs.lemmas.Bool.{cases_lt}
+use Rattle.std.proofs.Common.{◌≡◌, ℕ, ◌*◌, ◌/◌, ◌≤◌, ◌<◌, ◌⊎◌, inl, inr, Bool, false, List, [], length, get_or, refl, sym, ap, subst, ◌∙◌, arith}
+use Rattle.std.specs.Prelude.{All, IsTrue, ◌↔◌, Option, Some, None, option_and_then, slice_get}
+use Rattle.std.proofs.lemmas.Bool.{cases_lt, true≢false}
 use Rattle.std.proofs.lemmas.List.Sums.{get_or-le-sum_by}
 use Rattle.std.proofs.lemmas.Option.{none-some, same_Some, slice_get_within, get_or_from_slice_get}
 use Rattle.nav_base.specs.declared.point.Point.{Point}
@@ -9,16 +9,23 @@ use Rattle.mesh_types.specs.declared.links.PolyRef.{PolyRef}
 use Rattle.mesh_types.specs.declared.mesh.Mesh.{Mesh}
 use Rattle.mesh_types.specs.declared.mesh.TileMesh.{TileMesh}
 use Rattle.mesh_types.specs.declared.storeys.MeshPlace.{MeshPlace}
+use Rattle.mesh_types.specs.declared.extent.Extent.{Extent}
+use Rattle.mesh_types.specs.declared.polygon.Polygon.{Polygon}
+use Rattle.mesh_types.specs.Extents.{extent_of}
+use Rattle.mesh_types.specs.FitTiles.{IsPolygon}
+use Rattle.mesh_types.specs.Located.{Holds}
 use Rattle.mesh_types.specs.Places.{Stands, column_gap, storey_in}
 use Rattle.mesh_types.specs.Rays.{IsHeldAt}
 use Rattle.mesh_types.specs.Soundness.{IsSound}
 use Rattle.mesh_types.specs.Storeys.{HasFloor}
+use Rattle.mesh_locate.specs.Nearest.{IsInBox}
+use Rattle.mesh_locate.proofs.Reached.{held_in_box}
 use Rattle.mesh_place.proofs.Squares.{gap_of_point}
 use Rattle.random_place.specs.declared.draws.DrawPlace.{DrawPlace}
 use Rattle.random_place.specs.declared.draws.DrawAnswer.{DrawAnswer}
 use Rattle.random_place.specs.declared.draws.DrawAnswer.TheVariants.{Drawn, Cut, Nowhere}
 use Rattle.random_place.specs.declared.spots.StoreyCell.{StoreyCell}
-use Rattle.random_place.specs.Draws.{spot_drawn, IsOver, IsFirstOver, IsPlaceOver, IsRightDraw, TellsStanding, IsAnswerAt, IsOverIn}
+use Rattle.random_place.specs.Draws.{spot_drawn, IsOver, IsFirstOver, IsPlaceOver, IsRightDraw, TellsStanding, IsAnswerAt, IsOverIn, middle_of}
 use Rattle.random_place.specs.Spots.{spots_of}
 use Rattle.random_place.proofs.NumberLaws.{none_there}
 use Rattle.random_place.proofs.SpotLaws.{cell_of}
@@ -71,6 +78,31 @@ module _ (mesh : Mesh) (spot : StoreyCell) (tile : TileMesh) (there : slice_get 
       let inside = over_in at over in
       let within = slice_get_within tile.polys at.index inside.polygon inside.there in
       before at.index (omega (arith, all, within)) inside
+
+-- a polygon of another storey, and one whose box leaves a spot's cell out, is not over the spot
+pub not_over : {P : Type 0} (b : Bool) → b ≡ false → (P → ⊥) → IsTrue b ↔ P
+not_over b is none = (λ so. absurd (true≢false (sym so ∙ is)), λ p. absurd (none p))
+
+pub other_box : (tile : TileMesh) (index : ℕ) (spot : StoreyCell) (box : Extent) → All IsPolygon tile.polys
+    → ((d : Polygon) → box ≡ extent_of (get_or tile.polys index d)) → (IsInBox box (middle_of spot) → ⊥) → IsOverIn tile index spot → ⊥
+other_box tile index spot box rules is none over =
+    let polygon = over.polygon in
+    let within = slice_get_within tile.polys index polygon over.there in
+    let same : get_or tile.polys index polygon ≡ polygon = get_or_from_slice_get tile.polys index polygon polygon over.there in
+    none
+    (subst (λ (e : Extent). IsInBox e (middle_of spot)) (sym (is polygon ∙ ap extent_of same))
+    (held_in_box polygon (middle_of spot) (subst IsPolygon same (rules index polygon within)) over.holds))
+
+pub over_where : (tile : TileMesh) (index : ℕ) (spot : StoreyCell) (polygon : Polygon) (p : Point) (b : Bool)
+    → slice_get tile.storeys.homes index ≡ Some spot.storey → slice_get tile.polys index ≡ Some polygon → p ≡ middle_of spot → (IsTrue b ↔ Holds polygon p)
+    → IsTrue b ↔ IsOverIn tile index spot
+over_where tile index spot polygon p b home there at holds = (
+  λ so. record { home = home; polygon = polygon; there = there; holds = subst (Holds polygon) at (holds.0 so) },
+  λ over.
+      holds.1
+      (subst (Holds polygon) (sym at)
+      (subst (λ (one : Polygon). Holds one (middle_of spot)) (same_Some over.polygon polygon (sym over.there ∙ there)) over.holds)),
+)
 
 pub no_tile : (mesh : Mesh) (spot : StoreyCell) → slice_get mesh.tiles spot.tile ≡ None → IsFirstOver mesh spot None
 no_tile mesh spot none =

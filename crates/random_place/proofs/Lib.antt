@@ -2,4 +2,5 @@ mod Numbered
 mod CountLaws
 mod SpotLaws
 mod NumberLaws
+mod SumLaws
 mod DrawLaws

@@ -1,5 +1,5 @@
 -- Lists that the elements of another give one after another, each with its place.
-use Rattle.std.proofs.Common.{◌≡◌, ℕ, zero, suc, ◌+◌, ◌-◌, ◌≤◌, ◌<◌, inl, inr, List, [], ◌∷◌, ◌++◌, length, get_or, drop, refl, sym, ap, ◌∙◌, arith}
+use Rattle.std.proofs.Common.{◌≡◌, ℕ, zero, suc, ◌+◌, ◌-◌, ◌≤◌, ◌<◌, inl, inr, List, [], ◌∷◌, ◌++◌, length, get_or, drop, take, refl, sym, ap, ◌∙◌, arith}
 use Rattle.std.specs.Prelude.{Some, None, slice_get, sum_by, flat_map}
 use Rattle.std.specs.List.{enumerate_from}
 use Rattle.std.proofs.lemmas.Bool.{cases_lt}
@@ -55,6 +55,24 @@ module _ {X Y : Type 0} (f : ℕ × X → List Y) where
   past_this n i xs x k count there is counted past =
       ap (λ ys. slice_get ys k) (at_element n i xs x there is)
       ∙ slice_get-append_right (f (n, x)) (flat_map f (enumerate_from (n + 1) (drop (i + 1) xs))) k (k - count) (omega (arith, counted, past))
+
+  -- an element whose number lies between the sums before an element and with it is one of those that this gives
+  pub number_in : (g : X → ℕ) → ((n : ℕ) (x : X) → length (f (n, x)) ≡ g x) → (i n : ℕ) (xs : List X) (x : X) (k : ℕ) → i < length xs → x ≡ get_or xs i x
+      → sum_by g (take i xs) ≤ k → k < sum_by g (take (suc i) xs)
+      → slice_get (flat_map f (enumerate_from n xs)) k ≡ slice_get (f (n + i, x)) (k - sum_by g (take i xs))
+  number_in g each i n [] x k there is least less = absurd (omega (arith, there))
+  number_in g each zero n (y ∷ ys) x k there is least less =
+      slice_get-append_left (f (n, y)) (flat_map f (enumerate_from (n + 1) ys)) k (omega (arith, each n y, less, sum_by-cons g y []))
+      ∙ ap (λ z. slice_get (f (n, z)) k) (sym is)
+      ∙ ap (λ m. slice_get (f (m, x)) k) (omega arith)
+      ∙ ap (slice_get (f (n + 0, x))) (omega arith)
+  number_in g each (suc i) n (y ∷ ys) x k there is least less =
+      let first = sum_by-cons g y (take i ys) in
+      let with_it = sum_by-cons g y (take (suc i) ys) in
+      slice_get-append_right (f (n, y)) (flat_map f (enumerate_from (n + 1) ys)) k (k - g y) (omega (arith, each n y, least, first))
+      ∙ number_in g each i (n + 1) ys x (k - g y) (omega (arith, there)) is (omega (arith, least, first)) (omega (arith, less, least, first, with_it))
+      ∙ ap (λ m. slice_get (f (m, x)) (k - g y - sum_by g (take i ys))) (omega arith)
+      ∙ ap (slice_get (f (n + suc i, x))) (omega (arith, first))
 
   -- there is none behind the last element
   pub past_all : (n i : ℕ) (xs : List X) (k : ℕ) → length xs ≤ i → slice_get (flat_map f (enumerate_from n (drop i xs))) k ≡ None

@@ -50,7 +50,12 @@ pub(crate) fn spot_at(mesh: &Mesh, areas: u64, number: u128) -> Option<StoreyCel
 }
 
 /// The spot with a number, from 0, of those of a tile; none where there are fewer.
-fn spot_in_tile(storeys: &Storeys, areas: u64, tile: u32, number: u128) -> Option<StoreyCell>
+pub(crate) fn spot_in_tile(
+    storeys: &Storeys,
+    areas: u64,
+    tile: u32,
+    number: u128,
+) -> Option<StoreyCell>
     ensures value { result ≡ slice_get (tile_spots areas tile storeys.now.list) number }
     ensures inside { IfSome result IsInField }
 {

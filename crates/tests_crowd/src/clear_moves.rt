@@ -3,8 +3,7 @@
 ghost use Rattle.std.specs.Prelude.{◌≡◌};
 
 use crate::rows::{all_hold, hold};
-use crowd_filter::{CrowdAgent, CrowdMove, has_room, has_sizes, is_apart, is_clear, is_mover};
-use fine_walk::FineWay;
+use crowd_moves::{CrowdAgent, CrowdMove, has_room, has_sizes, is_apart, is_clear, is_mover};
 use mesh_types::PolyRef;
 use nav_base::Point;
 
@@ -126,11 +125,9 @@ fn made(mover: Mover) -> CrowdMove {
     let (_x, _z, floor, _speed, x, z) = mover;
     CrowdMove {
         by: Point { x, z },
-        way: FineWay {
-            last: PolyRef { tile: 0, index: 0 },
-            low: floor,
-            high: floor,
-        },
+        to: PolyRef { tile: 0, index: 0 },
+        low: floor,
+        high: floor,
     }
 }
 

@@ -4,7 +4,7 @@ ghost use Rattle.std.specs.Prelude.{◌≡◌, ◌≤◌, ◌^◌, ◌↔◌, Is
 ghost use Rattle.nav_base.specs.Point.{IsWithin};
 
 use crate::rows::all_hold;
-use crowd_filter::stays_beyond;
+use crowd_moves::stays_beyond;
 use nav_base::Point;
 
 /// Where the one is, seen from the other, by how much that changes, the square of the distance, and whether it is kept.

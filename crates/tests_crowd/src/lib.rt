@@ -1,5 +1,5 @@
 //! Tests of crowds on meshes: straight ways of fine points, distances that are kept, moves that are clear of
-//! each other, and moves that are granted.
+//! each other, and steps of crowds.
 //!
 //! The tests use public calls alone, and compare them with tables that were worked out by hand. They stand apart from what they test,
 //! so that no crate is proved a second time with its tests.
@@ -14,8 +14,8 @@ mod fields;
 #[cfg(test)]
 mod fine_ways;
 #[cfg(test)]
-mod granting;
-#[cfg(test)]
 mod meshes;
 #[cfg(test)]
 mod rows;
+#[cfg(test)]
+mod steps;

@@ -78,6 +78,10 @@ module _ (s t p q : Point) (z square : ℕ) where
   far_is : q.z ≡ pos z → square_of (from_to p q) ≡ across * across + along * along
   far_is on = square_parts (from_to p q) ∙ ap (λ (n : ℤ). across * across + unsigned_abs (n -ℤ p.z) * unsigned_abs (n -ℤ p.z)) on
 
+  -- nor than the row
+  pub beside_beyond : square ≤ square_of (from_to p (beside p z)) → q.z ≡ pos z → square ≤ square_of (from_to p q)
+  beside_beyond far on = omega (arith, far, far_is on, beside_is)
+
   never : (n d r w a : ℕ) → r * r * (n - d) ≤ a * a → a ≤ r * w → 0 < a → w * w + d < n → ⊥
   never n d r w a far most any less =
       let step : r * r * (w * w + 1) ≤ r * r * (n - d) = mul-le (r * r) (w * w + 1) (r * r) (n - d) (omega arith) (omega (arith, less)) in

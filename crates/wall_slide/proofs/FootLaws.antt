@@ -6,14 +6,17 @@ use Rattle.std.proofs.lemmas.Bool.{cases_lt}
 use Rattle.std.proofs.lemmas.Int.{ints}
 use Rattle.std.proofs.lemmas.Nat.{mul-le, mul-lt}
 use Rattle.nav_base.specs.declared.point.Point.{Point}
-use Rattle.nav_base.specs.Point.{HasCoordinates, IsInField, from_to}
+use Rattle.nav_base.specs.Point.{HasCoordinates, IsInField}
 use Rattle.mesh_types.specs.declared.polygon.Polygon.{Polygon}
 use Rattle.mesh_types.specs.FitTiles.{IsPolygon}
 use Rattle.mesh_types.specs.Located.{Holds}
 use Rattle.mesh_types.proofs.HeldPoints.{held_from_x, held_to_x, held_from_z, held_to_z}
 use Rattle.mesh_place.specs.Lines.{IsItOrFarther, point_on}
-use Rattle.mesh_place.proofs.Squares.{farther_across, square_parts}
+use Rattle.mesh_place.proofs.Squares.{farther_across}
 use Rattle.wall_slide.specs.declared.discs.Motion.{Motion}
+use Rattle.wall_slide.specs.declared.facing.FacingEdge.{FacingEdge}
+use Rattle.wall_slide.specs.declared.facing.FootRow.{FootRow}
+use Rattle.wall_slide.specs.Facing.{IsFacing, IsFootRow, rows_between}
 use Rattle.wall_slide.specs.declared.rows.RowPart.{RowPart}
 use Rattle.wall_slide.specs.Feet.{IsAnywhere, IsFoot, IsNearer, IsNearerOf, IsOnRow, far_from}
 use Rattle.wall_slide.specs.Rows.{IsInRow, IsRowPart, IsWithin, whole_row}
@@ -162,61 +165,67 @@ module _ (polygon : Polygon) (motion : Motion) where
                 omega (arith, e)
             no_farther x (inr less) = omega (arith, farther_across motion.to (point_on near z) (point_on x z) less refl)
 
-  -- ---- rows outward from the target
+  -- the same points again
+  pub again : (old new : Point) (among : Point → Type 0) → IsNearer polygon motion old new among → IsNearer polygon motion new new among
+  again old new among is = record { coordinates = is.coordinates; either = inl refl; kept = omega arith; all = is.all }
 
-  -- the points of rows less than so far from the target's
-  abbrev pub IsAsideLess : ℕ → Point → Type 0
-  IsAsideLess out q = unsigned_abs (q.z -ℤ motion.to.z) < out
+  -- ---- rows outward from a row
 
-  pub first_row : (old new : Point) → IsNearer polygon motion old new (IsOnRow motion.to.z) → IsNearer polygon motion old new (IsAsideLess 1)
-  first_row old new is = of_those old new (IsOnRow motion.to.z) (IsAsideLess 1) is (λ q foot less. same q.z motion.to.z less)
-    where
-      same : (m n : ℤ) → unsigned_abs (m -ℤ n) < 1 → m ≡ n
-      same m n less = omega (arith, ints, less)
+  module _ (row : ℤ) where
+    -- the points of rows less than so far from it
+    abbrev pub IsAsideLess : ℕ → Point → Type 0
+    IsAsideLess out q = unsigned_abs (q.z -ℤ row) < out
 
-  pub more_rows : (out : ℕ) (low high : ℤ) (old mid below new : Point) → low ≡ motion.to.z -ℤ pos out → high ≡ motion.to.z +ℤ pos out
-      → IsNearer polygon motion old mid (IsAsideLess out) → IsNearer polygon motion mid below (IsOnRow low) → IsNearer polygon motion below new (IsOnRow high)
-      → IsNearer polygon motion old new (IsAsideLess (out + 1))
-  more_rows out low high old mid below new low_is high_is is is' is'' =
-      and_then old below new (λ q. IsAsideLess out q ⊎ IsOnRow low q) (IsOnRow high) (IsAsideLess (out + 1))
-      (and_then old mid below (IsAsideLess out) (IsOnRow low) (λ q. IsAsideLess out q ⊎ IsOnRow low q) is is' (λ q foot either. either)) is''
-      (λ q foot less. cases q.z less)
-    where
-      cases : (n : ℤ) → unsigned_abs (n -ℤ motion.to.z) < out + 1 → ((unsigned_abs (n -ℤ motion.to.z) < out) ⊎ (n ≡ low)) ⊎ (n ≡ high)
-      cases n less = elim (cases_lt (unsigned_abs (n -ℤ motion.to.z)) out) [
-        | inl near ↦ inl (inl near)
-        | inr far ↦ side (n -ℤ motion.to.z) refl
-      ]
-        where
-          size : unsigned_abs (n -ℤ motion.to.z) ≤ out
-          size = omega (arith, less)
+    pub first_row : (old new : Point) → IsNearer polygon motion old new (IsOnRow row) → IsNearer polygon motion old new (IsAsideLess 1)
+    first_row old new is = of_those old new (IsOnRow row) (IsAsideLess 1) is (λ q foot less. same q.z row less)
+      where
+        same : (m n : ℤ) → unsigned_abs (m -ℤ n) < 1 → m ≡ n
+        same m n less = omega (arith, ints, less)
 
-          side : (d : ℤ) → (n -ℤ motion.to.z) ≡ d → ((unsigned_abs (n -ℤ motion.to.z) < out) ⊎ (n ≡ low)) ⊎ (n ≡ high)
-          side (pos k) e = elim (cases_lt k out) [
-            | inl near ↦ inl (inl (omega (arith, ap unsigned_abs e, near)))
-            | inr far' ↦ inr (by_pos n motion.to.z high k out e high_is (omega (arith, ap unsigned_abs e, size)) far')
-          ]
-          side (negsuc k) e = elim (cases_lt (k + 1) out) [
-            | inl near ↦ inl (inl (omega (arith, ap unsigned_abs e, near)))
-            | inr far' ↦ inl (inr (by_neg n motion.to.z low k out e low_is (omega (arith, ap unsigned_abs e, size)) far'))
-          ]
+    pub more_rows : (out : ℕ) (low high : ℤ) (old mid below new : Point) → low ≡ row -ℤ pos out → high ≡ row +ℤ pos out
+        → IsNearer polygon motion old mid (IsAsideLess out) → IsNearer polygon motion mid below (IsOnRow low) → IsNearer polygon motion below new (IsOnRow high)
+        → IsNearer polygon motion old new (IsAsideLess (out + 1))
+    more_rows out low high old mid below new low_is high_is is is' is'' =
+        and_then old below new (λ q. IsAsideLess out q ⊎ IsOnRow low q) (IsOnRow high) (IsAsideLess (out + 1))
+        (and_then old mid below (IsAsideLess out) (IsOnRow low) (λ q. IsAsideLess out q ⊎ IsOnRow low q) is is' (λ q foot either. either)) is''
+        (λ q foot less. cases q.z less)
+      where
+        cases : (n : ℤ) → unsigned_abs (n -ℤ row) < out + 1 → ((unsigned_abs (n -ℤ row) < out) ⊎ (n ≡ low)) ⊎ (n ≡ high)
+        cases n less = elim (cases_lt (unsigned_abs (n -ℤ row)) out) [
+          | inl near ↦ inl (inl near)
+          | inr far ↦ side (n -ℤ row) refl
+        ]
+          where
+            size : unsigned_abs (n -ℤ row) ≤ out
+            size = omega (arith, less)
 
-  -- what was found on the rows less than so far from the target's, of which there are few
-  pub record IsOutward (old new : Point) (out : ℕ) : Type 0 where
-    pub nearer : IsNearer polygon motion old new (IsAsideLess out)
-    pub few : out ≤ 185365
+            side : (d : ℤ) → (n -ℤ row) ≡ d → ((unsigned_abs (n -ℤ row) < out) ⊎ (n ≡ low)) ⊎ (n ≡ high)
+            side (pos k) e = elim (cases_lt k out) [
+              | inl near ↦ inl (inl (omega (arith, ap unsigned_abs e, near)))
+              | inr far' ↦ inr (by_pos n row high k out e high_is (omega (arith, ap unsigned_abs e, size)) far')
+            ]
+            side (negsuc k) e = elim (cases_lt (k + 1) out) [
+              | inl near ↦ inl (inl (omega (arith, ap unsigned_abs e, near)))
+              | inr far' ↦ inl (inr (by_neg n row low k out e low_is (omega (arith, ap unsigned_abs e, size)) far'))
+            ]
+
+    -- what was found on the rows no farther than so far from it, of which there are few
+    pub record IsOutward (old new : Point) (out : ℕ) : Type 0 where
+      pub nearer : IsNearer polygon motion old new (IsAsideLess (out + 1))
+      pub few : out ≤ 185364
 
   -- where no farther row can hold a nearer point
-  pub all_rows : (out : ℕ) (old new : Point) → IsNearer polygon motion old new (IsAsideLess out) → far_from motion new ≤ out * out
-      → IsNearer polygon motion old new IsAnywhere
-  all_rows out old new is near = record {
+  pub all_rows : (facing : FacingEdge) (foot : FootRow) → IsFacing polygon facing → IsFootRow facing motion.to foot → (out : ℕ) (old new : Point)
+      → IsNearer polygon motion old new (IsAsideLess foot.row (out + 1)) → far_from motion new ≤ foot.away + out * out → IsNearer polygon motion old new IsAnywhere
+  all_rows facing foot faces least out old new is near = record {
     coordinates = is.coordinates;
     either = is.either;
     kept = is.kept;
-    all = λ q foot any. elim (cases_lt (unsigned_abs (q.z -ℤ motion.to.z)) out) [
-      | inl less ↦ is.all q foot less
+    all = λ q held any. elim (cases_lt (unsigned_abs (q.z -ℤ foot.row)) (out + 1)) [
+      | inl less ↦ is.all q held less
       | inr far ↦
-          let d : ℕ = unsigned_abs (q.z -ℤ motion.to.z) in
-          omega (arith, near, square_parts (from_to motion.to q), mul-le out out d d far far)
+          let d : ℕ = rows_between q foot in
+          let more : out ≤ d = omega (arith, far) in
+          omega (arith, near, least q (faces.left q held.holds), mul-le out out d d more more)
     ];
   }

@@ -1,6 +1,8 @@
+mod CornerLaws
 mod DiscLaws
 mod EndLaws
 mod FacingLaws
+mod FootRowLaws
 mod FootLaws
 pub mod GatherLaws
 pub mod LeavingLinks

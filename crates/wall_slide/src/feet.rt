@@ -1,14 +1,16 @@
 //! The foot of a motion's target on a polygon: the nearest point that the polygon holds, no farther from the motion's start than the target.
 
 ghost use Rattle.std.specs.Prelude.{◌≡◌, ◌≤◌, pos, ◌+ℤ◌, ◌-ℤ◌};
-ghost use Rattle.nav_base.specs.Point.{HasCoordinates, IsCoordinate};
+ghost use Rattle.std.specs.Int.RustNames.{unsigned_abs};
+ghost use Rattle.nav_base.specs.Point.{HasCoordinates};
 ghost use Rattle.mesh_types.specs.FitTiles.{IsPolygon};
 ghost use Rattle.wall_slide.specs.Slides.{IsMotion};
-ghost use Rattle.wall_slide.specs.Facing.{IsFacing};
+ghost use Rattle.wall_slide.specs.Facing.{IsFacing, IsFootRow};
 ghost use Rattle.wall_slide.specs.Feet.{IsAnywhere, IsNearer, IsNearerOf, IsOnRow};
 
+use crate::corners::nearest_line;
 use crate::discs::Motion;
-use crate::facing::{FacingEdge, facing_edge, foot_row, is_beyond, is_row_beyond};
+use crate::facing::{FacingEdge, FootRow, facing_edge, foot_row, is_beyond, is_row_beyond};
 use crate::rows::{nearest_place, part_held, part_within, point_on};
 use mesh_types::Polygon;
 use nav_base::{Point, square_distance};
@@ -22,29 +24,39 @@ pub(crate) fn nearer_in(polygon: &Polygon, motion: Motion, best: Point) -> Point
     requires best { HasCoordinates best }
     ensures { IsNearer polygon.now motion best result IsAnywhere }
 {
-    let facing = facing_edge(polygon, motion.to);
-    if is_beyond(facing, motion.to, square_distance(motion.to, best)) {
+    let edge = facing_edge(polygon, motion.to);
+    if is_beyond(edge, motion.to, square_distance(motion.to, best)) {
         return best;
     }
-    let guess = nearer_on_row(polygon, facing, motion, foot_row(facing, motion.to), best);
-    if is_beyond(facing, motion.to, square_distance(motion.to, guess)) {
-        return guess;
-    }
-    nearer_on_rows(polygon, facing, motion, guess)
+    let facing = nearest_line(polygon, edge, motion.to);
+    let foot = foot_row(facing, motion.to);
+    let guess = nearer_on_row(polygon, facing, motion, foot.row, best);
+    nearer_beside(polygon, facing, motion, foot, guess)
 }
 
-/// The same. Rows are looked at outward from the target, as long as they can hold a nearer point.
-fn nearer_on_rows(polygon: &Polygon, facing: FacingEdge, motion: Motion, best: Point) -> Point
+/// The same, where the row of the target's foot was looked at. Rows are looked at outward from that one, as long as they can hold a nearer
+/// point.
+fn nearer_beside(
+    polygon: &Polygon,
+    facing: FacingEdge,
+    motion: Motion,
+    foot: FootRow,
+    best: Point,
+) -> Point
     requires rules { IsPolygon polygon.now }
     requires facing { IsFacing polygon.now facing }
     requires motion { IsMotion motion }
     requires best { HasCoordinates best }
+    requires foot { IsFootRow facing motion.to foot }
+    requires row { unsigned_abs foot.row ≤ 196608 }
+    requires away { foot.away ≤ 34359738368 }
+    requires looked { IsNearer polygon.now motion best best (IsOnRow foot.row) }
     ensures { IsNearer polygon.now motion best result IsAnywhere }
 {
-    let mut nearest = nearer_on_row(polygon, facing, motion, motion.to.z, best);
-    let mut out = 1;
-    while out * out < square_distance(motion.to, nearest) {
-        let (low, high) = rows_beside(motion.to.z, out);
+    let mut nearest = best;
+    let mut out = 0;
+    while foot.away + out * out < square_distance(motion.to, nearest) {
+        let (low, high) = rows_beside(foot.row, out + 1);
         nearest = nearer_on_row(polygon, facing, motion, low, nearest);
         nearest = nearer_on_row(polygon, facing, motion, high, nearest);
         out += 1;
@@ -54,8 +66,8 @@ fn nearer_on_rows(polygon: &Polygon, facing: FacingEdge, motion: Motion, best: P
 
 /// The two rows so far from a row.
 fn rows_beside(z: i32, out: u64) -> (i32, i32)
-    requires row { IsCoordinate z }
-    requires out { out ≤ 185364 }
+    requires row { unsigned_abs z ≤ 196608 }
+    requires out { out ≤ 185365 }
     ensures low { result.0 ≡ z -ℤ pos out }
     ensures high { result.1 ≡ z +ℤ pos out }
 {

@@ -8,6 +8,7 @@
 #![tactic(auto)]
 
 mod around;
+mod corners;
 mod discs;
 mod facing;
 mod feet;

@@ -3,6 +3,7 @@
 ghost use Rattle.std.specs.Prelude.{◌≡◌, ◌↔◌, All, Contains, IfOk, IsTrue, Some};
 ghost use Rattle.nav_base.specs.Point.{HasCoordinates};
 ghost use Rattle.mesh_types.specs.FitTiles.{IsPolygon};
+ghost use Rattle.mesh_types.specs.Rays.{IsHeldAt};
 ghost use Rattle.mesh_types.specs.Soundness.{IsSound};
 ghost use Rattle.mesh_types.specs.WholeMesh.{poly_at};
 ghost use Rattle.wall_slide.specs.Slides.{CanSlide, EndsNoFarther, IsFloorTold, IsRightSlide, LooksAt, StartsIn};
@@ -12,7 +13,7 @@ use crate::around::{Gathered, gather};
 use crate::discs::Motion;
 use crate::feet::nearer_in;
 use crate::questions::{Slide, SlideAnswer};
-use mesh_place::{HeightAnswer, height, is_place};
+use mesh_place::{HeightAnswer, height_held, is_place_of};
 use mesh_types::{Asked, Mesh, MeshPlace, PolyRef, Polygon, holds, poly};
 use nav_base::Point;
 use std::alloc::{AllocError, Global};
@@ -33,11 +34,14 @@ pub fn slide(alloc: Global, mesh: &Mesh, asked: &Slide) -> Result<SlideAnswer, A
     // It ends no farther from the target than it begins.
     ensures no_farther { IfOk result (EndsNoFarther asked.now) }
 {
-    if is_place(mesh, asked.from) {
-        let end = end_of(alloc, mesh, asked)?;
-        return Ok(SlideAnswer::Slid(place_at(mesh, end)));
+    let Some(polygon) = poly(mesh, asked.from.polygon) else {
+        return Ok(SlideAnswer::NoStart);
+    };
+    if !is_place_of(mesh, &polygon, asked.from) {
+        return Ok(SlideAnswer::NoStart);
     }
-    Ok(SlideAnswer::NoStart)
+    let end = end_of(alloc, mesh, &polygon, asked)?;
+    Ok(SlideAnswer::Slid(place_at(mesh, end)))
 }
 
 impl Asked for Slide {
@@ -54,13 +58,20 @@ impl Asked for Slide {
     }
 }
 
-/// The end of a slide that begins at a place.
-fn end_of(alloc: Global, mesh: &Mesh, asked: &Slide) -> Result<SlideEnd, AllocError>
+/// The end of a slide that begins at a place, of a polygon that is known.
+fn end_of(
+    alloc: Global,
+    mesh: &Mesh,
+    polygon: &Polygon,
+    asked: &Slide,
+) -> Result<SlideEnd, AllocError>
     requires sound { IsSound mesh.now }
+    requires polygon { poly_at mesh.now asked.now.from.polygon ≡ Some polygon.now }
+    requires rules { IsPolygon polygon.now }
     requires start { StartsIn mesh.now asked.now }
     ensures { IfOk result (IsNearestEnd mesh.now asked.now (LooksAt mesh.now asked.now)) }
 {
-    if holds(&polygon_at(mesh, asked.from.polygon), asked.to) {
+    if holds(polygon, asked.to) {
         return Ok(SlideEnd {
             polygon: asked.from.polygon,
             point: asked.to,
@@ -131,13 +142,13 @@ fn polygon_at(mesh: &Mesh, at: PolyRef) -> Polygon
 
 /// The place at the end of a slide, with the floor there.
 fn place_at(mesh: &Mesh, end: SlideEnd) -> MeshPlace
-    requires sound { IsSound mesh.now }
     requires point { HasCoordinates end.point }
+    requires held { IsHeldAt mesh.now end.point end.polygon }
     ensures polygon { result.polygon ≡ end.polygon }
     ensures point { result.point ≡ end.point }
     ensures floor { IsFloorTold mesh.now result }
 {
-    let y = match height(mesh, end.polygon, end.point) {
+    let y = match height_held(mesh, end.polygon, end.point) {
         HeightAnswer::Height { y, .. } => y,
         HeightAnswer::NoPlace => 0,
     };

@@ -133,7 +133,7 @@ fn ask_flood(
     if back == 1 {
         view.flood_back(alloc, query)
     } else {
-        view.ask_by(alloc, query)
+        view.ask_in_room(alloc, query)
     }
 }
 

@@ -9,13 +9,14 @@ ghost use Rattle.nav_handle.specs.Statuses as status;
 ghost use Rattle.way_handle.specs.Nearing.{NearestRoom, goals_of, nearest_asked, nearest_by, nearest_ends, told_nearest};
 
 use crate::filters::filter_of;
+use graph_search::Room;
 use mesh_types::{Asked, Mesh};
 use nav_handle::{
     HasMesh, LIMIT, NO_GOAL, NO_PATH, NO_START, NavdLink, NavdPoint, NavdPolygon, OK, OUT_OF_RANGE,
     has_coordinates, lay_links, point_of, polygon_told,
 };
 use nav_lists::Items;
-use path_queries::{Filter, Goal, NearestAnswer, NearestQuery};
+use path_queries::{AskedIn, Filter, Goal, NearestAnswer, NearestQuery};
 use std::alloc::{AllocError, Global};
 
 /// A place to which a way may lead.
@@ -88,6 +89,24 @@ fn have_coordinates(goals: &[NavdGoal]) -> bool
     true
 }
 
+/// The question for the nearest of the goals.
+fn query_of(
+    alloc: Global,
+    nearest: &NavdNearest,
+    filter: &Filter,
+    goals: &[NavdGoal],
+) -> Result<NearestQuery, AllocError>
+    ensures { IfOk result (λ query. query ≡ nearest_by nearest.now filter.now goals.now) }
+{
+    Ok(NearestQuery {
+        from: point_of(nearest.at),
+        from_y: nearest.y,
+        goals: goals_of(alloc, goals)?,
+        filter: *filter,
+        most_cost: nearest.most_cost,
+    })
+}
+
 /// The question for the nearest of the goals of the host's array: they are copied only where there is a mesh.
 #[derive(Drop)]
 struct Nearing<'a> {
@@ -104,14 +123,20 @@ impl<'a> Asked for Nearing<'a> {
     ghost is_right = { λ asked mesh answer. IsRightNearest (nearest_by asked.nearest asked.filter asked.goals.now) mesh answer };
 
     fn ask(&self, alloc: Global, mesh: &Mesh) -> Result<NearestAnswer, AllocError> {
-        let query = NearestQuery {
-            from: point_of(self.nearest.at),
-            from_y: self.nearest.y,
-            goals: goals_of(alloc, self.goals)?,
-            filter: self.filter,
-            most_cost: self.nearest.most_cost,
-        };
+        let query = query_of(alloc, &self.nearest, &self.filter, self.goals)?;
         query.ask(alloc, mesh)
+    }
+}
+
+impl<'a> AskedIn for Nearing<'a> {
+    fn ask_in(
+        &self,
+        alloc: Global,
+        room: &mut Room,
+        mesh: &Mesh,
+    ) -> Result<NearestAnswer, AllocError> {
+        let query = query_of(alloc, &self.nearest, &self.filter, self.goals)?;
+        query.ask_in(alloc, room, mesh)
     }
 }
 
@@ -188,6 +213,6 @@ pub fn nearest_goal<H: HasMesh>(
         filter,
         goals,
     };
-    let answer = held.ask_by(alloc, &asked);
+    let answer = held.ask_in_room(alloc, &asked);
     end_nearest(answer, nearest, links)
 }

@@ -183,6 +183,6 @@ pub fn plan<H: HasMesh>(
     let Some(query) = query_of(plan, costs) else {
         return OUT_OF_RANGE;
     };
-    let answer = held.ask_by(alloc, &query);
+    let answer = held.ask_in_room(alloc, &query);
     end_plan(answer, plan, links, turns)
 }

@@ -10,13 +10,14 @@ ghost use Rattle.way_handle.specs.Repairing.{CanAskRepair, RepairRoom, repair_as
 
 use crate::filters::filter_of;
 use crate::reading::{links_of, polygon_of};
-use kept_paths::{KeptPath, Repair, RepairAnswer, repair_path};
+use graph_search::Room;
+use kept_paths::{KeptPath, Repair, RepairAnswer, repair_path, repair_path_in};
 use mesh_types::{Asked, Corner, Link, Mesh};
 use nav_handle::{
     HasMesh, LIMIT, NO_GOAL, NO_PATH, NO_ROOM, NO_START, NavdLink, NavdPolygon, NavdTurn, NavdWay,
     OK, OUT_OF_RANGE, is_way, lay_links, lay_turns, point_of, polygon_told,
 };
-use path_queries::Filter;
+use path_queries::{AskedIn, Filter};
 use std::alloc::{AllocError, Global};
 
 /// Where the walker of a kept path is and its goal, the polygon in which it was last, how many links it has, how many of them are kept at most,
@@ -109,6 +110,18 @@ impl<'a> Asked for Repairing<'a> {
     }
 }
 
+impl<'a> AskedIn for Repairing<'a> {
+    fn ask_in(
+        &self,
+        alloc: Global,
+        room: &mut Room,
+        mesh: &Mesh,
+    ) -> Result<RepairAnswer, AllocError> {
+        let question = question(alloc, &self.repair, &self.filter, self.links)?;
+        repair_path_in(alloc, room, mesh, &question)
+    }
+}
+
 /// Asks for a path made whole.
 fn ask_repair<H: HasMesh>(
     alloc: Global,
@@ -127,7 +140,7 @@ fn ask_repair<H: HasMesh>(
         filter,
         links,
     };
-    held.ask_by(alloc, &asked)
+    held.ask_in_room(alloc, &asked)
 }
 
 /// Whether there is room for all links and all turns.

@@ -2,7 +2,6 @@ use Rattle.std.proofs.Common.{◌≡◌, ℕ, ◌+◌, ◌∙◌, List, drop, sy
 use Rattle.std.specs.Prelude.{All}
 use Rattle.std.proofs.lemmas.List.Sums.{sum_by_push}
 use Rattle.std.proofs.lemmas.List.Elements.{All-push}
-use Rattle.std.proofs.lemmas.Option.{same_Some}
 use Rattle.mesh_types.specs.declared.links.Link.{Link}
 use Rattle.mesh_types.specs.Corridors.{IsLinkOf, cost_of, weight_of}
 use Rattle.corridor_search.specs.Estimates.{extent_at}
@@ -28,10 +27,10 @@ overflow_add-cost c =
     omega (
       arith,
       fits-next c.args.mesh.now c.args.costs.now c.loop-link.links.items c.requires.sound c.requires.setting c.requires.costs
-          c.loop-link.invariant.listed c.in-Some.next c.in-Some.ensures.some.through.listed
+          c.loop-link.invariant.listed c.in-Some.next.link c.in-Some.ensures.some.through.listed
           (omega (arith, c.loop-link.invariant.count, c.loop-link-test.true, c.requires.few)),
       c.loop-link.invariant.cost,
-      c.step_over-step.ensures.cost,
+      c.step_over-step.ensures,
     )
 
 pub returns-in_default : goal.returns-in_default
@@ -46,23 +45,23 @@ returns-in_default c = record {
 pub loop-link-preserved : goal.loop-link-preserved
 loop-link-preserved c =
     let mesh = c.args.mesh.now in
-    let next = c.in-Some.next in
+    let next = c.in-Some.next.link in
     let links = c.loop-link.links.items in
     record {
       answers =
           subst (λ (ls : List Link). AnswersAll mesh c.args.areas c.args.first c.args.kept.now ls next.to (drop (c.loop-link.link-index + 1) c.args.kept.now))
           (sym c.in_ok-push.ensures.items)
           (answers-more mesh c.args.areas c.args.first c.loop-link.last c.args.kept.now links c.loop-link.link-index _ next c.loop-link-test.true
-          c.in-Some.ensures.some (λ leads. same_Some next _ (c.in-Some.ensures.kept leads)) c.loop-link.invariant.answers);
+          c.in-Some.ensures.some c.in-Some.ensures.kept c.loop-link.invariant.answers);
       listed =
           subst (All (IsLinkOf mesh)) (sym c.in_ok-push.ensures.items)
           (All-push (IsLinkOf mesh) links next c.loop-link.invariant.listed c.in-Some.ensures.some.through.listed);
       count = omega (arith, c.in_ok-push.ensures.len, c.loop-link.links.ok.0, c.loop-link.invariant.count);
       cost =
-          sum_of c.loop-link.invariant.cost c.step_over-step.ensures.cost
+          sum_of c.loop-link.invariant.cost c.step_over-step.ensures
           ∙ sym (sum_by_push (weight_of (with_costs c.args.costs.now mesh)) links next)
           ∙ ap (cost_of (with_costs c.args.costs.now mesh)) (sym c.in_ok-push.ensures.items);
-      extent = c.step_over-step.ensures.entered;
+      extent = c.in-Some.ensures.entered;
     }
 
 pub returns : goal.returns

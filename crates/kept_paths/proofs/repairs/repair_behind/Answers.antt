@@ -17,16 +17,16 @@ joined-requires-clause-parts c =
 pub bridge_target-requires-clause-cut : goal.bridge_target-requires-clause-cut
 bridge_target-requires-clause-cut c = lead-most c.args.mesh.now c.args.repair.now c.args.first c.args.lead.now c.requires.lead
 
-pub cheapest_allowed-requires-clause-from : goal.cheapest_allowed-requires-clause-from
-cheapest_allowed-requires-clause-from c =
+pub cheapest_allowed_in-requires-clause-from : goal.cheapest_allowed_in-requires-clause-from
+cheapest_allowed_in-requires-clause-from c =
     let mesh = c.args.mesh.now in
     let repair = c.args.repair.now in
     kept-there mesh repair c.args.first (length c.args.lead.now) c.first_links-kept.result.now c.end_of-at.result
     (kept-part mesh repair c.args.first (length c.args.lead.now) c.args.lead.now c.first_links-kept.result.now c.end_of-at.result c.requires.lead refl
     c.first_links-kept.ensures c.end_of-at.ensures)
 
-pub cheapest_allowed-requires-clause-to : goal.cheapest_allowed-requires-clause-to
-cheapest_allowed-requires-clause-to c =
+pub cheapest_allowed_in-requires-clause-to : goal.cheapest_allowed_in-requires-clause-to
+cheapest_allowed_in-requires-clause-to c =
     target-there c.args.mesh.now c.args.repair.now _ _ c.in-Some.target.to c.in-Some.target.last c.requires.sound c.in-Some.ensures.some
 
 pub joined-requires-in-Found-clause-parts : goal.joined-requires-in-Found-clause-parts

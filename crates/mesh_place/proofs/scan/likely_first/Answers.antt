@@ -1,10 +1,9 @@
 use Rattle.std.proofs.Common.{◌≡◌, length, refl, sym, ap, ◌∙◌}
 use Rattle.std.specs.Prelude.{Some, slice_get}
 use Rattle.std.proofs.lemmas.Option.{slice_get_read}
-use Rattle.mesh_types.specs.declared.links.PolyRef.{PolyRef}
 use Rattle.mesh_types.specs.declared.storeys.MeshPlace.{MeshPlace}
 use Rattle.mesh_types.proofs.MeshPolygons.{tile_at}
-use Rattle.mesh_place.proofs.SearchLaws.{passed, fewer}
+use Rattle.mesh_place.proofs.SearchLaws.{passed}
 use Rattle.mesh_place.proofs.scan.likely_first.Goals as goal
 
 pub likely_polygon-index-requires-clause-polygons : goal.likely_polygon-index-requires-clause-polygons
@@ -25,7 +24,4 @@ in_polygon-requires-clause-tile c =
     slice_get_read mesh.tiles (length mesh.tiles) c.args.tile c.at.result.now refl c.requires.there c.at.ensures ∙ ap Some (sym c.get-here.ensures)
 
 pub returns : goal.returns
-returns c =
-    let at : PolyRef = record { tile = c.args.tile; index = c.likely_polygon-index.result } in
-    fewer c.args.mesh.now c.args.asked.now c.args.best c.in_polygon.result (λ (other : MeshPlace). other.polygon ≡ at) (λ (other : MeshPlace). ⊥)
-    c.in_polygon.ensures (λ other stands near one. absurd one)
+returns c = c.in_polygon.ensures

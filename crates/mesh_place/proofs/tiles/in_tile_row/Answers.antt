@@ -34,6 +34,9 @@ in_tile-nearest-requires-clause-there c =
 pub in_tile-nearest-requires-clause-best : goal.in_tile-nearest-requires-clause-best
 in_tile-nearest-requires-clause-best c = c.loop-column.invariant.found
 
+pub in_tile-nearest-requires-clause-done : goal.in_tile-nearest-requires-clause-done
+in_tile-nearest-requires-clause-done c = λ other stands near one. c.loop-column.invariant.kept other (c.requires.done other stands near one)
+
 either : {A B W : Type 0} → A ⊎ B → W → (A × W) ⊎ B
 either (inl one) within = inl (one, within)
 either (inr one) within = inr one

@@ -19,6 +19,9 @@ loop-row-init c =
 pub in_tile_row-nearest-requires-clause-best : goal.in_tile_row-nearest-requires-clause-best
 in_tile_row-nearest-requires-clause-best c = c.loop-row.invariant.found
 
+pub in_tile_row-nearest-requires-clause-done : goal.in_tile_row-nearest-requires-clause-done
+in_tile_row-nearest-requires-clause-done c = λ other stands near one. c.loop-row.invariant.kept other (c.requires.done other stands near one)
+
 pub loop-row-preserved : goal.loop-row-preserved
 loop-row-preserved c =
     let mesh = c.args.mesh.now in

@@ -44,9 +44,9 @@ way_to-requires-clause-end c =
     let mesh = c.args.mesh.now in
     let q = c.args.query.now in
     let list = c.as_slice-reached.result.now in
-    let searched = same-list mesh q.filter c.args.first c.args.goals.now _ _ list _ c.as_slice-reached.ensures.value c.in_ok-found.ensures in
+    let searched = same-list mesh q.filter c.args.start.first c.args.goals.now _ _ list _ c.as_slice-reached.ensures.value c.in_ok-found.ensures in
     let last = last-of _ _ _ _ _ _ _ searched in
-    goal-end mesh q c.args.first c.args.goals.now list _ c.requires.sound c.requires.setting c.requires.start c.requires.goals searched
+    goal-end mesh q c.args.start.first c.args.goals.now list _ c.requires.sound c.requires.setting c.requires.start c.requires.goals searched
     _ _ last.end last.there (subst (Contains c.args.goals.now) c.polygon_at-at.ensures c.if-is_goal.ensures) _ c.polygon_at-at.ensures refl
 
 pub returns-then-is_goal-clause-right : goal.returns-then-is_goal-clause-right
@@ -54,9 +54,9 @@ returns-then-is_goal-clause-right c =
     let mesh = c.args.mesh.now in
     let q = c.args.query.now in
     let list = c.as_slice-reached.result.now in
-    let searched = same-list mesh q.filter c.args.first c.args.goals.now _ _ list _ c.as_slice-reached.ensures.value c.in_ok-found.ensures in
+    let searched = same-list mesh q.filter c.args.start.first c.args.goals.now _ _ list _ c.as_slice-reached.ensures.value c.in_ok-found.ensures in
     let last = last-of _ _ _ _ _ _ _ searched in
-    whole-way mesh q c.args.first c.args.goals.now list _ c.requires.sound c.requires.setting c.requires.start c.requires.goals searched
+    whole-way mesh q c.args.start.first c.args.goals.now list _ c.requires.sound c.requires.setting c.requires.start c.requires.goals searched
     _ _ last.end last.there (subst (Contains c.args.goals.now) c.polygon_at-at.ensures c.if-is_goal.ensures) _ c.polygon_at-at.ensures refl
     c.in_ok-way.way c.in_ok-way.ensures c.least_floor.ensures
 
@@ -65,8 +65,8 @@ nearest_spot-spot-requires-clause-there c k d below =
     let mesh = c.args.mesh.now in
     let q = c.args.query.now in
     let list = c.as_slice-reached.result.now in
-    let searched = same-list mesh q.filter c.args.first c.args.goals.now _ _ list _ c.as_slice-reached.ensures.value c.in_ok-found.ensures in
-    reached-there mesh q.filter c.args.first c.args.goals.now _ list _ c.requires.sound (located-there mesh q.from q.from_y c.args.first c.requires.start) searched
+    let searched = same-list mesh q.filter c.args.start.first c.args.goals.now _ _ list _ c.as_slice-reached.ensures.value c.in_ok-found.ensures in
+    reached-there mesh q.filter c.args.start.first c.args.goals.now _ list _ c.requires.sound (located-there mesh q.from q.from_y c.args.start.first c.requires.start) searched
     k _ (slice_get-get_or list k d below)
 
 pub nearest_spot-spot-requires-clause-begins : goal.nearest_spot-spot-requires-clause-begins
@@ -74,15 +74,15 @@ nearest_spot-spot-requires-clause-begins c =
     let mesh = c.args.mesh.now in
     let q = c.args.query.now in
     let list = c.as_slice-reached.result.now in
-    let searched = same-list mesh q.filter c.args.first c.args.goals.now _ _ list _ c.as_slice-reached.ensures.value c.in_ok-found.ensures in
+    let searched = same-list mesh q.filter c.args.start.first c.args.goals.now _ _ list _ c.as_slice-reached.ensures.value c.in_ok-found.ensures in
     let last = last-of _ _ _ _ _ _ _ searched in
-    let r = made-list mesh q c.args.first c.args.goals.now list _ c.requires.sound c.requires.setting c.requires.start c.requires.goals searched in
+    let r = made-list mesh q c.args.start.first c.args.goals.now list _ c.requires.sound c.requires.setting c.requires.start c.requires.goals searched in
     let there = slice_get-get_or list 0 no_entry last.some in
     record {
       entry = slice_index_or list 0 no_entry;
       there = there;
-      leads = subst (λ (v : PolyRef). leads_on mesh q.filter.areas c.args.first v ≡ true)
-          (sym (first-is mesh q list c.requires.sound c.requires.setting r _ there)) (start-on mesh q.filter.areas c.args.first);
+      leads = subst (λ (v : PolyRef). leads_on mesh q.filter.areas c.args.start.first v ≡ true)
+          (sym (first-is mesh q list c.requires.sound c.requires.setting r _ there)) (start-on mesh q.filter.areas c.args.start.first);
     }
 
 pub returns-clause-right : goal.returns-clause-right
@@ -90,9 +90,9 @@ returns-clause-right c =
     let mesh = c.args.mesh.now in
     let q = c.args.query.now in
     let list = c.as_slice-reached.result.now in
-    let searched = same-list mesh q.filter c.args.first c.args.goals.now _ _ list _ c.as_slice-reached.ensures.value c.in_ok-found.ensures in
+    let searched = same-list mesh q.filter c.args.start.first c.args.goals.now _ _ list _ c.as_slice-reached.ensures.value c.in_ok-found.ensures in
     let last = last-of _ _ _ _ _ _ _ searched in
     let top : c.in_ok-found.found.seen ≤ 18446744073709551615 = search rules in
-    partial-way mesh q c.args.first c.args.goals.now list _ c.requires.sound c.requires.setting c.requires.start c.requires.goals searched
+    partial-way mesh q c.args.start.first c.args.goals.now list _ c.requires.sound c.requires.setting c.requires.start c.requires.goals searched
     _ _ last.end last.there (λ held. c.if-is_goal.ensures (subst (Contains c.args.goals.now) (sym c.polygon_at-at.ensures) held)) top
-    c.args.rise c.requires.partial c.nearest_spot-spot.result c.nearest_spot-spot.ensures c.in_ok-way-2.way c.in_ok-way-2.ensures
+    c.args.start.rise c.requires.partial c.nearest_spot-spot.result c.nearest_spot-spot.ensures c.in_ok-way-2.way c.in_ok-way-2.ensures

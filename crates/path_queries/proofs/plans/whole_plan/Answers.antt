@@ -4,7 +4,7 @@ use Rattle.mesh_types.specs.Chains.{IsChain}
 use Rattle.mesh_types.specs.Right.{portals_of}
 use Rattle.mesh_types.specs.Taut.{IsTaut}
 use Rattle.funnel_path.specs.Coordinates.{HasChainCoordinates}
-use Rattle.path_queries.proofs.PlanParts.{limited-of, portals-few, way-of, way-pulled}
+use Rattle.path_queries.proofs.PlanParts.{limited-of, no-way-of, portals-few, way-of, way-pulled}
 use Rattle.path_queries.proofs.plans.whole_plan.Goals as goal
 
 pub returns-in_default-clause-right : goal.returns-in_default-clause-right
@@ -55,3 +55,8 @@ returns-in-Limit-clause-right c =
     let found = rw c.in-Limit.is at c.in_ok-corridor.ensures in
     limited-of c.args.mesh.now c.args.query.now c.args.first c.in-Some.last c.requires.start c.in-Some.ensures.located c.requires.whole
     c.in-Limit.seen found
+
+pub returns-in-Apart-clause-right : goal.returns-in-Apart-clause-right
+returns-in-Apart-clause-right c =
+    let apart = rw c.in-Apart.is at c.in_ok-corridor.ensures in
+    no-way-of c.args.mesh.now c.args.query.now c.args.first c.in-Some.last c.requires.start c.in-Some.ensures.located c.requires.whole apart

@@ -33,38 +33,38 @@ same-list mesh filter from goals limits list list' seen same searched =
 
 pub reached_walk-requires-clause-earlier : goal.reached_walk-requires-clause-earlier
 reached_walk-requires-clause-earlier c =
-    tree-earlier _ _ c.as_slice-reached.result.now (same-list c.args.mesh.now c.args.filter.now c.args.from c.args.goals.now c.args.limits _ c.as_slice-reached.result.now _ c.as_slice-reached.ensures.value c.in_ok-found.ensures).explored.tree
+    tree-earlier _ _ c.as_slice-reached.result.now (same-list c.args.mesh.now c.args.filter.now c.args.sought.from c.args.sought.goals.now c.args.sought.limits _ c.as_slice-reached.result.now _ c.as_slice-reached.ensures.value c.in_ok-found.ensures).explored.tree
 
 pub links_along-requires : goal.links_along-requires
 links_along-requires c =
-    let searched = same-list c.args.mesh.now c.args.filter.now c.args.from c.args.goals.now c.args.limits _ c.as_slice-reached.result.now _ c.as_slice-reached.ensures.value c.in_ok-found.ensures in
+    let searched = same-list c.args.mesh.now c.args.filter.now c.args.sought.from c.args.sought.goals.now c.args.sought.limits _ c.as_slice-reached.result.now _ c.as_slice-reached.ensures.value c.in_ok-found.ensures in
     let last = last-of _ _ _ _ _ _ _ searched in
-    let held = subst (Contains c.args.goals.now) c.polygon_at-at.ensures c.if-is_goal.ensures in
+    let held = subst (Contains c.args.sought.goals.now) c.polygon_at-at.ensures c.if-is_goal.ensures in
     subst (λ (steps : List Step). All (IsOver c.args.mesh.now) steps) (sym c.as_slice.ensures.value)
-    (over c.args.mesh.now c.args.filter.now c.args.from c.args.goals.now c.args.limits _ _ c.requires.sound c.requires.setting c.requires.from searched
+    (over c.args.mesh.now c.args.filter.now c.args.sought.from c.args.sought.goals.now c.args.sought.limits _ _ c.requires.sound c.requires.setting c.requires.from searched
     _ _ last.end last.there held (c.requires.lead_on _ held) c.in_ok-walk.walk (c.in_ok-walk.ensures.walk _ _ searched.explored.tree))
 
 pub returns-then-is_goal : goal.returns-then-is_goal
 returns-then-is_goal c =
-    let searched = same-list c.args.mesh.now c.args.filter.now c.args.from c.args.goals.now c.args.limits _ c.as_slice-reached.result.now _ c.as_slice-reached.ensures.value c.in_ok-found.ensures in
+    let searched = same-list c.args.mesh.now c.args.filter.now c.args.sought.from c.args.sought.goals.now c.args.sought.limits _ c.as_slice-reached.result.now _ c.as_slice-reached.ensures.value c.in_ok-found.ensures in
     let last = last-of _ _ _ _ _ _ _ searched in
-    let held = subst (Contains c.args.goals.now) c.polygon_at-at.ensures c.if-is_goal.ensures in
-    subst (λ (at : PolyRef). IsNearest c.args.mesh.now c.args.filter.now c.args.from c.args.goals.now c.args.limits at (record { cost = c.in_ok-walk.walk.cost; links = c.in_ok-links.links }))
+    let held = subst (Contains c.args.sought.goals.now) c.polygon_at-at.ensures c.if-is_goal.ensures in
+    subst (λ (at : PolyRef). IsNearest c.args.mesh.now c.args.filter.now c.args.sought.from c.args.sought.goals.now c.args.sought.limits at (record { cost = c.in_ok-walk.walk.cost; links = c.in_ok-links.links }))
     (sym c.polygon_at-at.ensures)
-    (nearest c.args.mesh.now c.args.filter.now c.args.from c.args.goals.now c.args.limits _ _ c.requires.sound c.requires.setting c.requires.from searched
+    (nearest c.args.mesh.now c.args.filter.now c.args.sought.from c.args.sought.goals.now c.args.sought.limits _ _ c.requires.sound c.requires.setting c.requires.from searched
     _ _ last.end last.there held (c.requires.lead_on _ held) c.in_ok-walk.walk (c.in_ok-walk.ensures.walk _ _ searched.explored.tree)
     c.in_ok-links.links (c.in_ok-links.ensures ∙ ap (map (link_of c.args.mesh.now)) c.as_slice.ensures.value) c.in_ok-walk.ensures.short)
 
 pub returns-then-is_all : goal.returns-then-is_all
 returns-then-is_all c =
-    let searched = same-list c.args.mesh.now c.args.filter.now c.args.from c.args.goals.now c.args.limits _ c.as_slice-reached.result.now _ c.as_slice-reached.ensures.value c.in_ok-found.ensures in
+    let searched = same-list c.args.mesh.now c.args.filter.now c.args.sought.from c.args.sought.goals.now c.args.sought.limits _ c.as_slice-reached.result.now _ c.as_slice-reached.ensures.value c.in_ok-found.ensures in
     let last = last-of _ _ _ _ _ _ _ searched in
-    apart-all c.args.mesh.now c.args.filter.now c.args.from c.args.goals.now c.args.limits _ _ c.requires.sound c.requires.setting c.requires.from searched
-    _ _ last.end last.there (λ held. c.if-is_goal.ensures (subst (Contains c.args.goals.now) (sym c.polygon_at-at.ensures) held)) c.if-is_all.ensures
+    apart-all c.args.mesh.now c.args.filter.now c.args.sought.from c.args.sought.goals.now c.args.sought.limits _ _ c.requires.sound c.requires.setting c.requires.from searched
+    _ _ last.end last.there (λ held. c.if-is_goal.ensures (subst (Contains c.args.sought.goals.now) (sym c.polygon_at-at.ensures) held)) c.if-is_all.ensures
 
 pub returns : goal.returns
 returns c =
-    let searched = same-list c.args.mesh.now c.args.filter.now c.args.from c.args.goals.now c.args.limits _ c.as_slice-reached.result.now _ c.as_slice-reached.ensures.value c.in_ok-found.ensures in
+    let searched = same-list c.args.mesh.now c.args.filter.now c.args.sought.from c.args.sought.goals.now c.args.sought.limits _ c.as_slice-reached.result.now _ c.as_slice-reached.ensures.value c.in_ok-found.ensures in
     let last = last-of _ _ _ _ _ _ _ searched in
-    beyond-seen c.args.mesh.now c.args.filter.now c.args.from c.args.goals.now c.args.limits _ _ c.requires.sound c.requires.setting c.requires.from searched
-    _ _ last.end last.there (λ held. c.if-is_goal.ensures (subst (Contains c.args.goals.now) (sym c.polygon_at-at.ensures) held)) c.if-is_all.ensures
+    beyond-seen c.args.mesh.now c.args.filter.now c.args.sought.from c.args.sought.goals.now c.args.sought.limits _ _ c.requires.sound c.requires.setting c.requires.from searched
+    _ _ last.end last.there (λ held. c.if-is_goal.ensures (subst (Contains c.args.sought.goals.now) (sym c.polygon_at-at.ensures) held)) c.if-is_all.ensures

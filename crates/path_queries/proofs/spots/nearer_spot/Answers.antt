@@ -1,26 +1,45 @@
-use Rattle.std.proofs.Common.{◌≡◌, ◌+◌, ap, sym, ◌∙◌, arith}
+use Rattle.std.proofs.Common.{◌≡◌, ◌+◌, ◌*◌, ◌<◌, ℕ, ap, refl, subst, sym, ◌∙◌, arith}
 use Rattle.std.specs.Prelude.{slice_index_or}
 use Rattle.std.proofs.lemmas.Option.{slice_get-get_or}
 use Rattle.graph_search.specs.declared.exploring.ReachedVertex.{ReachedVertex}
 use Rattle.graph_search.proofs.ReachedLists.{get-one}
+use Rattle.mesh_types.specs.Located.{height_gap}
 use Rattle.mesh_types.specs.WholeMesh.{poly_at}
 use Rattle.corridor_search.specs.Estimates.{extent_at}
-use Rattle.corridor_search.specs.MeshGraphs.{polygon_of}
+use Rattle.corridor_search.specs.MeshGraphs.{IsThere, polygon_of}
 use Rattle.corridor_search.proofs.Extents.{extent-is, extent-rules}
 use Rattle.corridor_search.proofs.Sound.{polygon-rules}
 use Rattle.path_queries.proofs.FloodLoops.{no_entry}
 use Rattle.path_queries.proofs.SpotLaws.{box-farther, box-most, spot-kept, spot-stays, spot-taken}
 use Rattle.path_queries.proofs.spots.nearer_spot.Goals as goal
 
-pub box_gap-requires-clause-low : goal.box_gap-requires-clause-low
-box_gap-requires-clause-low c =
-    (extent-rules c.args.mesh.now c.polygon_at-at.result c.extent_at.result c.requires.sound
-    (record { polygon = c.polygon_there-polygon.result; is = c.polygon_there-polygon.ensures }) c.extent_at.ensures).box.low
+less-more : (gap square near : ℕ) → near < gap → near < gap + square
+less-more gap square near less = omega (arith, less)
 
-pub box_gap-requires-clause-high : goal.box_gap-requires-clause-high
-box_gap-requires-clause-high c =
+pub box_gap-gap-requires-clause-low : goal.box_gap-gap-requires-clause-low
+box_gap-gap-requires-clause-low c =
     (extent-rules c.args.mesh.now c.polygon_at-at.result c.extent_at.result c.requires.sound
-    (record { polygon = c.polygon_there-polygon.result; is = c.polygon_there-polygon.ensures }) c.extent_at.ensures).box.high
+    (subst (IsThere c.args.mesh.now) (sym c.polygon_at-at.ensures) (c.requires.there c.args.place no_entry c.requires.inside)) c.extent_at.ensures).box.low
+
+pub box_gap-gap-requires-clause-high : goal.box_gap-gap-requires-clause-high
+box_gap-gap-requires-clause-high c =
+    (extent-rules c.args.mesh.now c.polygon_at-at.result c.extent_at.result c.requires.sound
+    (subst (IsThere c.args.mesh.now) (sym c.polygon_at-at.ensures) (c.requires.there c.args.place no_entry c.requires.inside)) c.extent_at.ensures).box.high
+
+-- the box alone is farther than what was found: so it is with the height
+pub returns-then-is_farther : goal.returns-then-is_farther
+returns-then-is_farther c =
+    let mesh = c.args.mesh.now in
+    let list = c.args.reached.now in
+    let entry : ReachedVertex = slice_index_or list c.args.place no_entry in
+    let at : c.polygon_at-at.result ≡ polygon_of entry.vertex = c.polygon_at-at.ensures in
+    let there = c.requires.there c.args.place no_entry c.requires.inside in
+    let square = c.args.toward.rise * height_gap there.polygon c.args.toward.y * (c.args.toward.rise * height_gap there.polygon c.args.toward.y) in
+    spot-stays mesh c.args.toward list c.requires.sound c.args.place c.args.nearest c.requires.nearest
+    (box-farther mesh c.args.toward list c.requires.sound c.args.place c.args.nearest entry there.polygon c.extent_at.result
+    (c.box_gap-gap.result + square) square
+    (slice_get-get_or list c.args.place no_entry c.requires.inside) there.is
+    (c.extent_at.ensures ∙ ap (extent_at mesh) at) refl (λ i. c.box_gap-gap.ensures i + square) (less-more c.box_gap-gap.result square c.args.nearest.near c.if-is_farther.ensures))
 
 pub square_rise-requires-clause-rules : goal.square_rise-requires-clause-rules
 square_rise-requires-clause-rules c =
@@ -33,19 +52,19 @@ overflow_add-in_box c =
     let own = polygon-rules mesh c.polygon_at-at.result polygon c.requires.sound c.polygon_there-polygon.ensures in
     let most = box-most polygon c.extent_at.result own (c.extent_at.ensures ∙ extent-is mesh c.polygon_at-at.result polygon c.polygon_there-polygon.ensures)
     c.args.toward.goal c.requires.toward.point in
-    record { fits = omega (arith, most, c.box_gap.ensures, c.square_rise.ensures.bound) }
+    record { fits = omega (arith, most, c.box_gap-gap.ensures, c.square_rise.ensures.bound) }
 
-pub returns-then-is_farther : goal.returns-then-is_farther
-returns-then-is_farther c =
+pub returns-then-is_farther-2 : goal.returns-then-is_farther-2
+returns-then-is_farther-2 c =
     let mesh = c.args.mesh.now in
     let list = c.args.reached.now in
     let entry : ReachedVertex = slice_index_or list c.args.place no_entry in
     let at : c.polygon_at-at.result ≡ polygon_of entry.vertex = c.polygon_at-at.ensures in
     spot-stays mesh c.args.toward list c.requires.sound c.args.place c.args.nearest c.requires.nearest
     (box-farther mesh c.args.toward list c.requires.sound c.args.place c.args.nearest entry c.polygon_there-polygon.result c.extent_at.result
-    (c.box_gap.result + c.square_rise.result) c.square_rise.result
+    (c.box_gap-gap.result + c.square_rise.result) c.square_rise.result
     (slice_get-get_or list c.args.place no_entry c.requires.inside) (ap (poly_at mesh) (sym at) ∙ c.polygon_there-polygon.ensures)
-    (c.extent_at.ensures ∙ ap (extent_at mesh) at) c.square_rise.ensures.value (λ i. c.box_gap.ensures i + c.square_rise.result) c.if-is_farther.ensures)
+    (c.extent_at.ensures ∙ ap (extent_at mesh) at) c.square_rise.ensures.value (λ i. c.box_gap-gap.ensures i + c.square_rise.result) c.if-is_farther-2.ensures)
 
 pub spot_in-spot-requires-clause-polygon : goal.spot_in-spot-requires-clause-polygon
 spot_in-spot-requires-clause-polygon c entry is =

@@ -4,7 +4,7 @@ use Rattle.wall_slide.proofs.facing.facing_edge.Goals as goal
 
 pub loop-edge-preserved : goal.loop-edge-preserved
 loop-edge-preserved c =
-    elim c.more_right-facing.ensures [
+    elim c.farther_edge-facing.ensures [
       | inl same ↦ subst (IsFacing c.args.polygon.now) (sym same) c.loop-edge.invariant
       | inr same ↦ subst (IsFacing c.args.polygon.now) (sym same) c.edge_toward.ensures
     ]

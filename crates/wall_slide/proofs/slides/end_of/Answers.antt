@@ -11,7 +11,7 @@ use Rattle.wall_slide.proofs.slides.end_of.Goals as goal
 
 pub returns-then-holds : goal.returns-then-holds
 returns-then-holds c =
-    target_is c.args.mesh.now c.args.asked.now c.requires.sound c.requires.start c.polygon_at.result c.polygon_at.ensures.named
+    target_is c.args.mesh.now c.args.asked.now c.requires.sound c.requires.start c.args.polygon.now c.requires.polygon
     (c.holds.ensures.0 c.if-holds.true)
 
 pub returns-in-Target : goal.returns-in-Target

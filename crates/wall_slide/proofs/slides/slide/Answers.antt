@@ -1,4 +1,3 @@
-use Rattle.std.proofs.lemmas.Bool.{iff_false}
 use Rattle.mesh_types.specs.declared.mesh.Mesh.{Mesh}
 use Rattle.mesh_types.specs.Places.{IsPlace}
 use Rattle.nav_base.specs.Point.{HasCoordinates}
@@ -12,21 +11,18 @@ begins mesh asked place to = record { held = place.held; to = to }
 
 pub place_at-requires-clause-point : goal.place_at-requires-clause-point
 place_at-requires-clause-point c =
-    let place = c.is_place.ensures.0 c.if-is_place.true in
+    let place = c.is_place_of.ensures.0 c.if-not-is_place_of.false in
     end_coordinates c.args.mesh.now c.args.asked.now c.requires.sound (begins c.args.mesh.now c.args.asked.now place c.requires.asked.to) c.in_ok-end.end
     c.in_ok-end.ensures.is
 
-pub returns-then-is_place-clause-right : goal.returns-then-is_place-clause-right
-returns-then-is_place-clause-right c =
-    let place = c.is_place.ensures.0 c.if-is_place.true in
+pub returns-clause-right : goal.returns-clause-right
+returns-clause-right c =
+    let place = c.is_place_of.ensures.0 c.if-not-is_place_of.false in
     is_slide c.args.mesh.now c.args.asked.now c.requires.sound (begins c.args.mesh.now c.args.asked.now place c.requires.asked.to) c.in_ok-end.end
     c.place_at.result place c.in_ok-end.ensures c.place_at.ensures.polygon c.place_at.ensures.point c.place_at.ensures.floor
 
-pub returns-then-is_place-clause-no_farther : goal.returns-then-is_place-clause-no_farther
-returns-then-is_place-clause-no_farther c =
-    let place = c.is_place.ensures.0 c.if-is_place.true in
+pub returns-clause-no_farther : goal.returns-clause-no_farther
+returns-clause-no_farther c =
+    let place = c.is_place_of.ensures.0 c.if-not-is_place_of.false in
     no_farther c.args.mesh.now c.args.asked.now c.requires.sound (begins c.args.mesh.now c.args.asked.now place c.requires.asked.to) c.place_at.result
-    (returns-then-is_place-clause-right c)
-
-pub returns-clause-right : goal.returns-clause-right
-returns-clause-right c = iff_false c.is_place.ensures c.if-is_place.false
+    (returns-clause-right c)

@@ -9,4 +9,4 @@ pub returns-clause-asked : goal.returns-clause-asked
 returns-clause-asked g c can =
     subst (λ (q : PathQuery). IsAskedBy (IsRightPlan q) plan_ends told_plan (g.H.HasMesh.mesh_in c.args.held.now) (c.args.plan.now, c.args.links.now, c.args.turns.now)
     (c.end_plan.new.plan, c.end_plan.new.links, c.end_plan.new.turns) c.end_plan.result) c.in-Some.ensures.query
-    (c.end_plan.ensures _ c.in-Some.query c.ask_by-answer.ensures.replied)
+    (c.end_plan.ensures _ c.in-Some.query c.ask_in_room-answer.ensures.replied)

@@ -14,4 +14,5 @@ invariant_of-result c =
       setting = subst (λ (mesh : Mesh). IsSetting mesh.setting) same c.in_ok-mesh.ensures.setting;
       two_way = subst IsTwoWay same c.in_ok-mesh.ensures.two_way;
       own = c.requires;
+      sums = tt;
     }

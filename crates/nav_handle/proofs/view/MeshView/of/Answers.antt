@@ -10,4 +10,5 @@ invariant_of-result c =
       setting = IsSetting-of_build state.ground state.history state.published c.in_ok-mesh.mesh c.mesh-shown.ensures.rules.level c.in_ok-mesh.ensures.value;
       two_way = two_way_shown state c.in_ok-mesh.mesh c.mesh-shown.ensures.rules c.in_ok-mesh.ensures.value;
       own = tt;
+      sums = tt;
     }

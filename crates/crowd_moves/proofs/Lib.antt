@@ -1,0 +1,9 @@
+mod BeyondLaws
+mod Readings
+pub mod PairLaws
+pub mod StepLaws
+mod StandLaws
+pub mod Elements
+mod TurnLaws
+mod GridLaws
+mod FindingLaws

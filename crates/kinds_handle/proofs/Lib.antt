@@ -1,0 +1,10 @@
+mod Loops
+mod SpanOrder
+mod KindRules
+mod Answered
+mod FirstKinds
+mod AllShown
+mod Words
+mod Crossing
+mod KindPlaces
+mod ClaimLaws

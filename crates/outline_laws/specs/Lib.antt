@@ -1,0 +1,2 @@
+pub mod UnitRings
+pub mod UncutOutlines
