@@ -107,6 +107,12 @@ typedef struct {
     uint32_t full;
 } navd_registry;
 
+/* A handle of kinds: levels of several kinds of agents over one ground, with one history. Zeroed, it holds nothing. */
+typedef struct {
+    void *at;
+    uint32_t full;
+} navd_kinds;
+
 /* A point, in sixteenths of a cell. */
 typedef struct {
     int32_t x, z;
@@ -150,6 +156,23 @@ typedef struct {
     navd_slope slope;
     navd_setting setting;
 } navd_mesh;
+
+/* A kind of agent: how high it stands, 1 to 255, and steps, below that; how many cells it keeps from walls, 0 to 15, and where `clear` is not 0 from
+ * obstacles too; and the side of its tiles, 4 to 128 columns, with `clear` at least twice the radius. */
+typedef struct {
+    uint32_t height, climb, radius, clear, tile;
+} navd_kind;
+
+/* What kinds share: 1 to 1024 columns a side; the error of outlines, 0 to 10000; where `contours` is 0 a polygon is a strip of cells; and how many
+ * obstacles may be alive at once, 1 to 1024. */
+typedef struct {
+    uint32_t width, depth, error, contours, limit;
+} navd_ground;
+
+/* A solid piece of the column (x, z), from its bottom up to its top, 0 to 8191, which is more; the top has an area, 0 to 63. */
+typedef struct {
+    uint32_t x, z, bottom, top, area;
+} navd_span;
 
 /* A triangle that fails: how many stand before it, and why. 1: it names a vertex that there is none of. 2: a number is none, or infinite. 3: a corner
  * lies outside the field. 4: its area is above 63. */
@@ -590,8 +613,8 @@ uint32_t navd_changed_tiles(navd_level *level, uint32_t since, uint32_t *tiles, 
  * Worker threads of the host build tiles beside whoever changes the level: a job is claimed (a call of both handles), built from its own handle
  * alone, as long as it likes, and handed in or put back (calls of both handles). A tile that is claimed is given to no other claim, and navd_step
  * passes it by, until a job of that tile is handed in or put back, whichever claim it is of, or navd_settle, navd_renew or navd_put_back_all ends
- * all claims; then a job may still be handed in. A job may be built, handed in elsewhere and closed after its level was closed. Of a registry they are
- * claimed by calls of its own, navd_registry_claim and those below it. */
+ * all claims; then a job may still be handed in. A job may be built, handed in elsewhere and closed after its level was closed. Of a registry and
+ * of kinds they are claimed by calls of their own, navd_registry_claim, navd_kinds_claim and those below them. */
 
 /* Claims the least tile that is awaited and not claimed; the job's handle holds the job then, and its tile is left at `tile`.
  * NAVD_OK. NAVD_EMPTY, before all others: the level's handle holds none. NAVD_BUSY, before the next. NAVD_SAME: there is no such tile.
@@ -688,6 +711,55 @@ uint32_t navd_registry_save(navd_registry *registry, uint8_t *bytes, size_t room
  * NAVD_OK. NAVD_EMPTY. NAVD_NOT_SAVED: no save wrote these bytes. NAVD_FOREIGN: it was saved of another width, depth, tile or limit. NAVD_TOO_MANY:
  * 2^64 - 1 versions were shown. NAVD_HISTORY_FULL: the history may not have so many more. NAVD_NO_MEMORY. */
 uint32_t navd_registry_restore(navd_registry *registry, const uint8_t *bytes, size_t length);
+
+/* == Kinds: levels of several kinds of agents over one ground, with one history ==
+ * Each request is one entry of all kinds, and a publish shows it in all of them or in none. A kind is named by its place among those that were opened,
+ * from 0. Its mesh is that of a level opened for it alone, with the same requests. Questions are asked of views, each of one kind. */
+
+/* Opens 1 to 16 kinds over spans, by z, then x, then from the bottom up, which do not overlap, with no obstacles, all built and published. `costs` are 64
+ * numbers by area, each 1 to 1000, for all kinds; where there are 0 of them, each area costs 1. Kinds that the handle held are closed then.
+ * NAVD_OK. NAVD_OUT_OF_RANGE: before all others: a number, or the order of the spans. NAVD_TOO_MANY_SPANS. NAVD_NO_MEMORY. In these three the handle holds
+ * what it held. */
+uint32_t navd_kinds_open(navd_kinds *kinds, const navd_ground *ground, const navd_kind *kind, size_t count, const uint32_t *costs, size_t costs_count,
+                         const navd_span *spans, size_t spans_count);
+
+/* Closes the kinds, if the handle holds some; the handle holds nothing then. Views of them stay good. */
+void navd_kinds_close(navd_kinds *kinds);
+
+/* Requests, steps and a renewal: each is that of a level with kinds in its place, for all kinds at once, and ends as that one does. */
+uint32_t navd_kinds_add_block(navd_kinds *kinds, const navd_block *block, uint32_t area, uint32_t *entry);
+uint32_t navd_kinds_add_cylinder(navd_kinds *kinds, const navd_cylinder *cylinder, uint32_t area, uint32_t *entry);
+uint32_t navd_kinds_add_prism(navd_kinds *kinds, const navd_prism *prism, uint32_t area, uint32_t *entry);
+uint32_t navd_kinds_add_disc(navd_kinds *kinds, const navd_disc *disc, uint32_t area, uint32_t *entry);
+uint32_t navd_kinds_remove(navd_kinds *kinds, uint32_t number, uint32_t *entry);
+uint32_t navd_kinds_settle(navd_kinds *kinds, uint32_t *published);
+uint32_t navd_kinds_aim(navd_kinds *kinds, uint32_t *target);
+uint32_t navd_kinds_renew(navd_kinds *kinds, uint32_t *numbers, size_t room, size_t *count);
+
+/* Builds the least tile that is awaited and not claimed in the least kind that has one; both are left at `kind` and `tile`.
+ * NAVD_OK. NAVD_SAME: there is no such tile. NAVD_EMPTY. NAVD_NO_MEMORY: nothing was done. */
+uint32_t navd_kinds_step(navd_kinds *kinds, uint32_t *kind, uint32_t *tile);
+
+/* Publishes the target in all kinds, once no tile is awaited in any. At `number` is left how many entries are published now.
+ * NAVD_OK. NAVD_SAME: the target was published before. NAVD_NOT_YET: the least kind in which a tile is awaited is left at `kind`, and that tile at
+ * `number`. NAVD_EMPTY. NAVD_NO_MEMORY: only where the target is to be published; nothing was done in any kind. */
+uint32_t navd_kinds_publish(navd_kinds *kinds, uint32_t *kind, uint32_t *number);
+
+/* Jobs of kinds: each call is that of a level with kinds in its place. A claim gives the least tile of the least kind that has one, and leaves that kind at
+ * `kind`; the job is handed in or put back to it. To another kind it is NAVD_FOREIGN, but where the two are alike in all numbers.
+ * As of a level. NAVD_OUT_OF_RANGE, before NAVD_FOREIGN: there is no such kind. */
+uint32_t navd_kinds_claim(navd_kinds *kinds, navd_job *job, uint32_t *kind, uint32_t *tile);
+uint32_t navd_kinds_submit(navd_kinds *kinds, uint32_t kind, navd_job *job);
+uint32_t navd_kinds_put_back(navd_kinds *kinds, uint32_t kind, navd_job *job);
+uint32_t navd_kinds_put_back_all(navd_kinds *kinds);
+
+/* The counts of a kind.
+ * NAVD_OK. NAVD_EMPTY. NAVD_OUT_OF_RANGE: there is no such kind. */
+uint32_t navd_kinds_count(navd_kinds *kinds, uint32_t kind, navd_counts *counts);
+
+/* Brings a view up to what a kind shows, as navd_look does; how many entries that are is left at `published`.
+ * NAVD_OK. NAVD_EMPTY: the kinds' handle holds none. NAVD_OUT_OF_RANGE: there is no such kind. NAVD_NO_MEMORY: the view shows what it showed. */
+uint32_t navd_kinds_look(navd_view *view, navd_kinds *kinds, uint32_t kind, uint32_t *published);
 
 /* == Questions, which are answered from what is published ==
  * They change nothing. */

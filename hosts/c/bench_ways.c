@@ -123,12 +123,22 @@ static size_t ways_to_one(void) {
     return 1;
 }
 
+static void check(const route *path) {
+    navd_kept it = {.way = path->way, .first = path->path.first, .areas = UINT64_MAX};
+    want(!navd_view_check_path(&view, &it, no_costs, 0, path->links, path->path.links, turns, MOST_ROOM), "a check");
+}
+
+/* A path is checked again and again: what it leads through is in the processor's caches. */
 static size_t checks(void) {
+    for (size_t i = 0; i < paths_count; i++)
+        for (int round = 0; round < 20; round++) check(&paths[i]);
+    return 20 * all_links;
+}
+
+/* One path after the other: little of it is. */
+static size_t checks_in_turn(void) {
     for (int round = 0; round < 20; round++)
-        for (size_t i = 0; i < paths_count; i++) {
-            navd_kept it = {.way = paths[i].way, .first = paths[i].path.first, .areas = UINT64_MAX};
-            want(!navd_view_check_path(&view, &it, no_costs, 0, paths[i].links, paths[i].path.links, turns, MOST_ROOM), "a check");
-        }
+        for (size_t i = 0; i < paths_count; i++) check(&paths[i]);
     return 20 * all_links;
 }
 
@@ -236,6 +246,7 @@ int main(int argc, char **words) {
     measure("flood", floods);
     if (paths_count) measure("ways_to_one", ways_to_one);
     measure("check_a_link", checks);
+    measure("check_in_turn", checks_in_turn);
     measure("follow_8_ahead", follow_8);
     measure("follow_all_ahead", follow_all);
     want(sscanf(strstr(text, "\nsize "), "\nsize %" SCNu32 " %" SCNu32, &width, &depth) == 2, "a size");

@@ -427,10 +427,52 @@ public:
     Status restore(Array<uint8_t> bytes) noexcept { return Status{navd_registry_restore(&handle, detail::address(bytes.data()), bytes.size())}; }
 };
 
+// Levels of several kinds of agents over one ground, with one history, by their numbers from 0.
+class Kinds : public detail::Owner<navd_kinds, navd_kinds_close> {
+public:
+    Status open(const navd_ground &ground, Array<navd_kind> kinds, Array<uint32_t> costs, Array<navd_span> spans) noexcept {
+        return Status{navd_kinds_open(&handle, &ground, detail::address(kinds.data()), kinds.size(), detail::address(costs.data()), costs.size(),
+                                      detail::address(spans.data()), spans.size())};
+    }
+
+    Status add_block(const navd_block &block, uint32_t area, uint32_t &entry) noexcept {
+        return Status{navd_kinds_add_block(&handle, &block, area, &entry)};
+    }
+    Status add_cylinder(const navd_cylinder &cylinder, uint32_t area, uint32_t &entry) noexcept {
+        return Status{navd_kinds_add_cylinder(&handle, &cylinder, area, &entry)};
+    }
+    Status add_prism(const navd_prism &prism, uint32_t area, uint32_t &entry) noexcept {
+        return Status{navd_kinds_add_prism(&handle, &prism, area, &entry)};
+    }
+    Status add_disc(const navd_disc &disc, uint32_t area, uint32_t &entry) noexcept {
+        return Status{navd_kinds_add_disc(&handle, &disc, area, &entry)};
+    }
+    Status remove(uint32_t number, uint32_t &entry) noexcept { return Status{navd_kinds_remove(&handle, number, &entry)}; }
+
+    Status settle(uint32_t &published) noexcept { return Status{navd_kinds_settle(&handle, &published)}; }
+    Status aim(uint32_t &target) noexcept { return Status{navd_kinds_aim(&handle, &target)}; }
+    Status step(uint32_t &kind, uint32_t &tile) noexcept { return Status{navd_kinds_step(&handle, &kind, &tile)}; }
+    Status publish(uint32_t &kind, uint32_t &number) noexcept { return Status{navd_kinds_publish(&handle, &kind, &number)}; }
+    Status claim(Job &job, uint32_t &kind, uint32_t &tile) noexcept { return Status{navd_kinds_claim(&handle, job.get(), &kind, &tile)}; }
+    Status submit(uint32_t kind, Job &job) noexcept { return Status{navd_kinds_submit(&handle, kind, job.get())}; }
+    Status put_back(uint32_t kind, Job &job) noexcept { return Status{navd_kinds_put_back(&handle, kind, job.get())}; }
+    Status put_back_all() noexcept { return Status{navd_kinds_put_back_all(&handle)}; }
+    Status renew(std::vector<uint32_t> &numbers) {
+        return detail::all(numbers, [&](uint32_t *to, size_t *count) {
+            const uint32_t end = navd_kinds_renew(&handle, to, *count, count);
+            return end == NAVD_NO_ROOM ? NAVD_OK : end; // nothing was done, and the count is more than the room
+        });
+    }
+    Status count(uint32_t kind, navd_counts &counts) noexcept { return Status{navd_kinds_count(&handle, kind, &counts)}; }
+};
+
 class View : public detail::Asked<navd_view, navd_view_close, detail::ViewCalls> {
 public:
     Status look(Level &level, uint32_t &published) noexcept { return Status{navd_look(&handle, level.get(), &published)}; }
     Status look(Registry &registry, uint64_t &version) noexcept { return Status{navd_registry_look(&handle, registry.get(), &version)}; }
+    Status look(Kinds &kinds, uint32_t kind, uint32_t &published) noexcept {
+        return Status{navd_kinds_look(&handle, kinds.get(), kind, &published)};
+    }
     // Shows what another view shows, with the costs that that one has of its own: for another thread.
     Status copy(View &from) noexcept { return Status{navd_view_copy(&handle, from.get())}; }
     Status set_costs(Array<uint32_t> costs) noexcept {

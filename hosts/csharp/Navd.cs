@@ -213,6 +213,27 @@ namespace Navd
         public Cylinder Cylinder;
     }
 
+    /// <summary>A kind of agent, in height units and cells, and the side of its tiles; with Clear not 0 it keeps its radius from obstacles too.</summary>
+    [StructLayout(LayoutKind.Sequential)]
+    public struct Kind
+    {
+        public uint Height, Climb, Radius, Clear, Tile;
+    }
+
+    /// <summary>What kinds share: columns, the error of outlines, strips (0) or contours, and how many obstacles may be alive.</summary>
+    [StructLayout(LayoutKind.Sequential)]
+    public struct Ground
+    {
+        public uint Width, Depth, Error, Contours, Limit;
+    }
+
+    /// <summary>A solid piece of a column, with the area of its top.</summary>
+    [StructLayout(LayoutKind.Sequential)]
+    public struct Span
+    {
+        public uint X, Z, Bottom, Top, Area;
+    }
+
     /// <summary>An obstacle of a registry: a block (Kind 0), a cylinder (1), a prism (2) or a disc (3), with the area that it gives, or 0 where it stops
     /// agents. The numbers of what it is not are not read, and are told as 0.</summary>
     [StructLayout(LayoutKind.Sequential)]
@@ -584,6 +605,43 @@ namespace Navd
         [DllImport(Library)]
         internal static extern Status navd_registry_look(ViewHandle view, RegistryHandle registry, out ulong version);
         [DllImport(Library)]
+        internal static extern Status navd_kinds_open(KindsHandle kinds, ref Ground ground, Kind[] kind, UIntPtr count, uint[] costs, UIntPtr costsCount,
+            Span[] spans, UIntPtr spansCount);
+        [DllImport(Library)]
+        internal static extern void navd_kinds_close(IntPtr kinds);
+        [DllImport(Library)]
+        internal static extern Status navd_kinds_add_block(KindsHandle kinds, ref Block block, uint area, out uint entry);
+        [DllImport(Library)]
+        internal static extern Status navd_kinds_add_cylinder(KindsHandle kinds, ref Cylinder cylinder, uint area, out uint entry);
+        [DllImport(Library)]
+        internal static extern Status navd_kinds_add_prism(KindsHandle kinds, ref Prism prism, uint area, out uint entry);
+        [DllImport(Library)]
+        internal static extern Status navd_kinds_add_disc(KindsHandle kinds, ref Disc disc, uint area, out uint entry);
+        [DllImport(Library)]
+        internal static extern Status navd_kinds_remove(KindsHandle kinds, uint number, out uint entry);
+        [DllImport(Library)]
+        internal static extern Status navd_kinds_settle(KindsHandle kinds, out uint published);
+        [DllImport(Library)]
+        internal static extern Status navd_kinds_aim(KindsHandle kinds, out uint target);
+        [DllImport(Library)]
+        internal static extern Status navd_kinds_renew(KindsHandle kinds, [Out] uint[] numbers, UIntPtr room, out UIntPtr count);
+        [DllImport(Library)]
+        internal static extern Status navd_kinds_claim(KindsHandle kinds, JobHandle job, out uint kind, out uint tile);
+        [DllImport(Library)]
+        internal static extern Status navd_kinds_submit(KindsHandle kinds, uint kind, JobHandle job);
+        [DllImport(Library)]
+        internal static extern Status navd_kinds_put_back(KindsHandle kinds, uint kind, JobHandle job);
+        [DllImport(Library)]
+        internal static extern Status navd_kinds_put_back_all(KindsHandle kinds);
+        [DllImport(Library)]
+        internal static extern Status navd_kinds_step(KindsHandle kinds, out uint kind, out uint tile);
+        [DllImport(Library)]
+        internal static extern Status navd_kinds_publish(KindsHandle kinds, out uint kind, out uint number);
+        [DllImport(Library)]
+        internal static extern Status navd_kinds_count(KindsHandle kinds, uint kind, out Counts counts);
+        [DllImport(Library)]
+        internal static extern Status navd_kinds_look(ViewHandle view, KindsHandle kinds, uint kind, out uint published);
+        [DllImport(Library)]
         internal static extern Status navd_floors(LevelHandle level, uint x, uint z, [Out] Floor[] floors, UIntPtr room, out UIntPtr count);
         [DllImport(Library)]
         internal static extern Status navd_prepare(LevelHandle level);
@@ -779,6 +837,15 @@ namespace Navd
         protected override bool ReleaseHandle()
         {
             Native.navd_registry_close(handle);
+            return Freed();
+        }
+    }
+
+    internal sealed class KindsHandle : Owned
+    {
+        protected override bool ReleaseHandle()
+        {
+            Native.navd_kinds_close(handle);
             return Freed();
         }
     }
@@ -1199,6 +1266,11 @@ namespace Navd
             return Native.navd_registry_look(view, registry.registry, out version);
         }
 
+        public Status Look(Kinds kinds, uint kind, out uint published)
+        {
+            return Native.navd_kinds_look(view, kinds.kinds, kind, out published);
+        }
+
         /// <summary>Shows what another view shows, with the costs that that one has of its own: for another thread.</summary>
         public Status Copy(View from)
         {
@@ -1581,6 +1653,109 @@ namespace Navd
         public void Dispose()
         {
             registry.Dispose();
+        }
+    }
+
+    /// <summary>Levels of several kinds of agents over one ground, with one history, by their numbers from 0.</summary>
+    public sealed class Kinds : IDisposable
+    {
+        internal readonly KindsHandle kinds = new KindsHandle();
+
+        /// <summary>Spans by z, then x, then from the bottom up. Costs are 64 numbers by area, or none: each area costs 1.</summary>
+        public Status Open(Ground ground, Kind[] kind, uint[] costs, Span[] spans)
+        {
+            Kind[] kindItems = Given.Items(kind, "kind");
+            uint[] costItems = Given.Items(costs, "costs");
+            Span[] spanItems = Given.Items(spans, "spans");
+            return Native.navd_kinds_open(kinds, ref ground, kindItems, Given.Length(kind), costItems, Given.Length(costs), spanItems,
+                Given.Length(spans));
+        }
+
+        public Status AddBlock(Block block, uint area, out uint entry)
+        {
+            return Native.navd_kinds_add_block(kinds, ref block, area, out entry);
+        }
+
+        public Status AddCylinder(Cylinder cylinder, uint area, out uint entry)
+        {
+            return Native.navd_kinds_add_cylinder(kinds, ref cylinder, area, out entry);
+        }
+
+        public Status AddPrism(Prism prism, uint area, out uint entry)
+        {
+            return Native.navd_kinds_add_prism(kinds, ref prism, area, out entry);
+        }
+
+        public Status AddDisc(Disc disc, uint area, out uint entry)
+        {
+            return Native.navd_kinds_add_disc(kinds, ref disc, area, out entry);
+        }
+
+        public Status Remove(uint number, out uint entry)
+        {
+            return Native.navd_kinds_remove(kinds, number, out entry);
+        }
+
+        public Status Settle(out uint published)
+        {
+            return Native.navd_kinds_settle(kinds, out published);
+        }
+
+        public Status Aim(out uint target)
+        {
+            return Native.navd_kinds_aim(kinds, out target);
+        }
+
+        public Status Step(out uint kind, out uint tile)
+        {
+            return Native.navd_kinds_step(kinds, out kind, out tile);
+        }
+
+        public Status Publish(out uint kind, out uint number)
+        {
+            return Native.navd_kinds_publish(kinds, out kind, out number);
+        }
+
+        public Status Claim(Job job, out uint kind, out uint tile)
+        {
+            return Native.navd_kinds_claim(kinds, job.job, out kind, out tile);
+        }
+
+        public Status Submit(uint kind, Job job)
+        {
+            return Native.navd_kinds_submit(kinds, kind, job.job);
+        }
+
+        public Status PutBack(uint kind, Job job)
+        {
+            return Native.navd_kinds_put_back(kinds, kind, job.job);
+        }
+
+        public Status PutBackAll()
+        {
+            return Native.navd_kinds_put_back_all(kinds);
+        }
+
+        /// <summary>Status.NoRoom does not come: nothing was done then, and the room is made.</summary>
+        public Status Renew(Room<uint> numbers)
+        {
+            Status status;
+            UIntPtr count;
+            do
+            {
+                status = Native.navd_kinds_renew(kinds, numbers.Items, numbers.Length, out count);
+            } while (!numbers.Takes(status == Status.Ok || status == Status.NoRoom, count));
+            return status;
+        }
+
+        public Status Count(uint kind, out Counts counts)
+        {
+            return Native.navd_kinds_count(kinds, kind, out counts);
+        }
+
+        public void Dispose()
+        {
+            kinds.Dispose();
         }
     }
 

@@ -67,6 +67,18 @@ class _Disc(Structure):
     _fields_ = [("x", c_int32), ("z", c_int32), ("r", c_uint32), ("y0", c_uint32), ("y1", c_uint32)]
 
 
+class _Kind(Structure):
+    _fields_ = [(name, c_uint32) for name in ("height", "climb", "radius", "clear", "tile")]
+
+
+class _Ground(Structure):
+    _fields_ = [(name, c_uint32) for name in ("width", "depth", "error", "contours", "limit")]
+
+
+class _Span(Structure):
+    _fields_ = [(name, c_uint32) for name in ("x", "z", "bottom", "top", "area")]
+
+
 class _Solid(Structure):
     _fields_ = [("kind", c_uint32), ("area", c_uint32), ("block", _Block), ("cylinder", _Cylinder), ("prism", _Prism), ("disc", _Disc)]
 
@@ -528,6 +540,33 @@ class Followed:
 
 
 @dataclass(frozen=True)
+class Kind:
+    """A kind of agent of Kinds, in height units and cells, and the side of its tiles; with `clear` it keeps its radius from obstacles too."""
+    height: int
+    climb: int
+    radius: int
+    tile: int
+    clear: bool = False
+
+
+@dataclass(frozen=True)
+class Ground:
+    """What Kinds share: columns, the error of outlines, whether polygons are cut of contours, and how many obstacles may be alive."""
+    width: int
+    depth: int
+    limit: int
+    error: int = 0
+    contours: bool = False
+
+
+@dataclass(frozen=True)
+class Awaited:
+    """A tile of a kind that is still awaited."""
+    kind: int
+    tile: int
+
+
+@dataclass(frozen=True)
 class Counts:
     history: int
     target: int
@@ -585,6 +624,23 @@ def _library():
         "navd_registry_save": [handle, POINTER(c_uint8), c_size_t, count],
         "navd_registry_restore": [handle, POINTER(c_uint8), c_size_t],
         "navd_registry_look": [handle, handle, POINTER(c_uint64)],
+        "navd_kinds_open": [handle, POINTER(_Ground), POINTER(_Kind), c_size_t, number, c_size_t, POINTER(_Span), c_size_t],
+        "navd_kinds_add_block": [handle, POINTER(_Block), c_uint32, number],
+        "navd_kinds_add_cylinder": [handle, POINTER(_Cylinder), c_uint32, number],
+        "navd_kinds_add_prism": [handle, POINTER(_Prism), c_uint32, number],
+        "navd_kinds_add_disc": [handle, POINTER(_Disc), c_uint32, number],
+        "navd_kinds_remove": [handle, c_uint32, number],
+        "navd_kinds_settle": [handle, number],
+        "navd_kinds_aim": [handle, number],
+        "navd_kinds_renew": [handle, number, c_size_t, count],
+        "navd_kinds_claim": [handle, handle, number, number],
+        "navd_kinds_submit": [handle, c_uint32, handle],
+        "navd_kinds_put_back": [handle, c_uint32, handle],
+        "navd_kinds_put_back_all": [handle],
+        "navd_kinds_step": [handle, number, number],
+        "navd_kinds_publish": [handle, number, number],
+        "navd_kinds_count": [handle, c_uint32, POINTER(_Counts)],
+        "navd_kinds_look": [handle, handle, c_uint32, number],
         "navd_prepare": [handle],
         "navd_add_block": [handle, POINTER(_Block), c_uint32, number],
         "navd_add_cylinder": [handle, POINTER(_Cylinder), c_uint32, number],
@@ -625,7 +681,7 @@ def _library():
     }.items():
         call = getattr(found, name)
         call.argtypes, call.restype = words, c_uint32
-    for call in (found.navd_close, found.navd_view_close, found.navd_job_close, found.navd_registry_close):
+    for call in (found.navd_close, found.navd_view_close, found.navd_job_close, found.navd_registry_close, found.navd_kinds_close):
         call.argtypes, call.restype = [handle], None
     return found
 
@@ -1029,6 +1085,100 @@ class Registry:
         self._do("restore", _bytes(saved), len(saved))
 
 
+class Kinds:
+    """Levels of several Kinds of agents over one Ground, with one history, by their numbers from 0. `spans` are (x, z, bottom, top, area), by z, then x, then
+    from the bottom up, and `costs` 64 numbers by area, or none: each area costs 1. It is used by one thread at a time."""
+
+    def __init__(self, ground, kinds, spans, costs=()):
+        self._calls, self._handle = _library(), _Handle()
+        told = _Ground(ground.width, ground.depth, ground.error, ground.contours, ground.limit)
+        agents = _array(_Kind, [(it.height, it.climb, it.radius, it.clear, it.tile) for it in kinds])
+        self._do("open", byref(told), agents, len(kinds), _array(c_uint32, costs), len(costs), _array(_Span, spans), len(spans))
+
+    def __enter__(self):
+        return self
+
+    def __exit__(self, *_):
+        self.close()
+
+    def close(self):
+        self._calls.navd_kinds_close(byref(self._handle))
+
+    def _do(self, name, *words, allowed=(OK,)):
+        status = getattr(self._calls, "navd_kinds_" + name)(byref(self._handle), *words)
+        if status not in allowed:
+            raise NavdError(status)
+        return status
+
+    def _number(self, name, *words):
+        number = c_uint32()
+        status = getattr(self._calls, "navd_kinds_" + name)(byref(self._handle), *words, byref(number))
+        if status:
+            raise NavdError(status, number=number.value)
+        return number.value
+
+    def add(self, shape, area=0):
+        """The number of the obstacle, a Block, a Cylinder, a Prism or a Disc, in all kinds."""
+        kind = (Block, Cylinder, Prism, Disc).index(type(shape))
+        return self._number(("add_block", "add_cylinder", "add_prism", "add_disc")[kind], byref(_told(shape)), area)
+
+    def remove(self, number):
+        """The number of the entry."""
+        return self._number("remove", number)
+
+    def settle(self):
+        """Builds and publishes all in all kinds; how many entries are published."""
+        return self._number("settle")
+
+    def aim(self):
+        """How many entries the tiles of all kinds are built for from now on."""
+        return self._number("aim")
+
+    def step(self):
+        """The kind and the tile that was built; None where none is awaited."""
+        kind, tile = c_uint32(), c_uint32()
+        status = self._do("step", byref(kind), byref(tile), allowed=(OK, SAME))
+        return (kind.value, tile.value) if status == OK else None
+
+    def publish(self):
+        """How many entries are published in all kinds; or an Awaited, and then nothing was done in any."""
+        kind, number = c_uint32(), c_uint32()
+        status = self._do("publish", byref(kind), byref(number), allowed=(OK, SAME, NOT_YET))
+        return Awaited(kind.value, number.value) if status == NOT_YET else number.value
+
+    def renew(self):
+        """Begins the history again: the numbers that the obstacles had, of which the n-th has the number n from then on."""
+        numbers, count = (c_uint32 * 1024)(), c_size_t()
+        self._do("renew", numbers, len(numbers), byref(count))
+        return list(numbers[:count.value])
+
+    def claim(self, job):
+        """The kind and the tile that a Job is to build, or None where none is awaited that is not claimed."""
+        kind, tile = c_uint32(), c_uint32()
+        status = self._do("claim", byref(job._handle), byref(kind), byref(tile), allowed=(OK, SAME))
+        job.tile = tile.value if status == OK else None
+        return (kind.value, tile.value) if status == OK else None
+
+    def submit(self, kind, job):
+        """Whether the build of a Job was still wanted, by the kind that was told."""
+        status = self._do("submit", kind, byref(job._handle), allowed=(OK, STALE))
+        job.tile = None
+        return status == OK
+
+    def put_back(self, kind, job):
+        self._do("put_back", kind, byref(job._handle))
+        job.tile = None
+
+    def put_back_all(self):
+        """Ends all claims of all kinds."""
+        self._do("put_back_all")
+
+    def counts(self, kind):
+        told = _Counts()
+        self._do("count", kind, byref(told))
+        return Counts(*(getattr(told, name) for name, _ in _Counts._fields_))
+
+
 class View(_Asked):
     """What one thread asks while another changes the level: the mesh as it was published at the last look."""
 
@@ -1052,6 +1202,14 @@ class View(_Asked):
         if status:
             raise NavdError(status)
         return version.value
+
+    def look_at_kind(self, kinds, kind):
+        """Shows what a kind of Kinds shows now; how many entries that are. It is a call of both."""
+        published = c_uint32()
+        status = self._calls.navd_kinds_look(byref(self._handle), byref(kinds._handle), kind, byref(published))
+        if status:
+            raise NavdError(status)
+        return published.value
 
     def copy(self):
         """A further View of what it shows, with its costs, for another thread."""

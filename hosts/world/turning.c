@@ -217,6 +217,7 @@ static void compare(navd_world *world) {
 
 int main(int argc, char **words) {
     long frames = argc == 2 ? atol(words[1]) : 0, refused = 0;
+    uint64_t unseen = 0;
     if (frames <= 0) return 2;
     navd_world *world = open_rooms();
     pthread_t threads[READERS];
@@ -232,7 +233,10 @@ int main(int argc, char **words) {
         refusing = 0;
         want(status == NAVD_OK || status == NAVD_NO_MEMORY, "an update");
         refused += status == NAVD_NO_MEMORY;
-        want(progress.version >= version && progress.version <= version + 1, "a version that falls");
+        /* an update that is refused may have been shown by the registry already, and by the world with the next one */
+        unseen += status == NAVD_NO_MEMORY;
+        want(progress.version >= version && progress.version <= version + 1 + unseen, "a version that falls");
+        if (status == NAVD_OK) unseen = 0;
         version = progress.version;
         if (i % 64 == 0) compare_rows(world);
     }

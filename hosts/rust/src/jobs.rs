@@ -1,9 +1,9 @@
-//! Jobs: tiles that any thread builds beside whoever changes the level, or the registry that the level went over into.
+//! Jobs: tiles that any thread builds beside whoever changes the level, the registry that the level went over into, or kinds.
 
-use crate::{done, error_of, sys, Error, Level, Registry};
+use crate::{done, error_of, sys, Error, Kinds, Level, Registry};
 use std::ptr::null_mut;
 
-/// A tile that was claimed of a level or a registry. A job that is dropped leaves its tile claimed, until a level is settled or all claims are ended.
+/// A tile that was claimed of a level, a registry or kinds. A job that is dropped leaves its tile claimed, until a level is settled or all claims are ended.
 pub struct Job {
     handle: sys::Handle,
     tile: u32,
@@ -52,6 +52,29 @@ impl Registry {
 
     pub fn put_back_all(&mut self) {
         unsafe { sys::navd_registry_put_back_all(&mut self.handle) };
+    }
+}
+
+/// As those of a level, with the kind.
+impl Kinds {
+    /// The kind, and the job that is handed in or put back to it.
+    pub fn claim(&mut self) -> Result<Option<(u32, Job)>, Error> {
+        let mut kind = 0;
+        // SAFETY: here and below, the handle of the kinds is borrowed here alone.
+        let claimed = claim_by(|job, tile| unsafe { sys::navd_kinds_claim(&mut self.handle, job, &mut kind, tile) })?;
+        Ok(claimed.map(|job| (kind, job)))
+    }
+
+    pub fn submit(&mut self, kind: u32, job: Job) -> Result<bool, (Error, Job)> {
+        submit_by(job, |job| unsafe { sys::navd_kinds_submit(&mut self.handle, kind, job) })
+    }
+
+    pub fn put_back(&mut self, kind: u32, job: Job) -> Result<(), (Error, Job)> {
+        put_back_by(job, |job| unsafe { sys::navd_kinds_put_back(&mut self.handle, kind, job) })
+    }
+
+    pub fn put_back_all(&mut self) {
+        unsafe { sys::navd_kinds_put_back_all(&mut self.handle) };
     }
 }
 

@@ -15,6 +15,7 @@
 mod goals;
 mod heap;
 mod jobs;
+mod kinds;
 mod lines;
 mod looks;
 mod place_ways;
@@ -31,6 +32,7 @@ use std::fmt;
 use std::ptr::null_mut;
 pub use goals::{Followed, Follower, Found, Nearest};
 pub use jobs::Job;
+pub use kinds::{Kinds, Publish};
 pub use lines::Line;
 pub use looks::{Obstacle, Shape};
 pub use place_ways::{FoundWay, PlaceWay};
@@ -38,8 +40,8 @@ pub use places::{Drawn, MeshPlace, Near};
 pub use registry::{Registry, Row, Solid, Updated};
 pub use repairs::{Repair, Repaired};
 pub use sys::{
-    Block, Corner, Counts, Cylinder, Disc, Face, Floor, Jump, Link, Point, Polygon, Prism, Reached, Shown, Turn,
-    Wall,
+    Block, Corner, Counts, Cylinder, Disc, Face, Floor, Ground, Jump, Kind, Link, Point, Polygon, Prism, Reached, Shown,
+    Span, Turn, Wall,
 };
 pub use walks::{Hop, Step, Walker};
 pub use ways::{Checked, Filter, Limits, Planned};

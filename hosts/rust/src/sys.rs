@@ -87,6 +87,39 @@ pub struct Disc {
     pub y1: u32,
 }
 
+/// A kind of agent, in height units and cells, and the side of its tiles; with `clear` not 0 it keeps its radius from obstacles too.
+#[repr(C)]
+#[derive(Clone, Copy, Default, Debug, PartialEq, Eq)]
+pub struct Kind {
+    pub height: u32,
+    pub climb: u32,
+    pub radius: u32,
+    pub clear: u32,
+    pub tile: u32,
+}
+
+/// What kinds share: columns, the error of outlines, strips (0) or contours, and how many obstacles may be alive.
+#[repr(C)]
+#[derive(Clone, Copy, Default, Debug, PartialEq, Eq)]
+pub struct Ground {
+    pub width: u32,
+    pub depth: u32,
+    pub error: u32,
+    pub contours: u32,
+    pub limit: u32,
+}
+
+/// A solid piece of a column, with the area of its top.
+#[repr(C)]
+#[derive(Clone, Copy, Default, Debug, PartialEq, Eq)]
+pub struct Span {
+    pub x: u32,
+    pub z: u32,
+    pub bottom: u32,
+    pub top: u32,
+    pub area: u32,
+}
+
 /// An obstacle of a registry: its kind, the area that it gives or 0, and its numbers; those of what it is not are not read.
 #[repr(C)]
 #[derive(Clone, Copy, Default)]
@@ -635,6 +668,33 @@ extern "C" {
     pub fn navd_registry_look(view: *mut Handle, registry: *mut Handle, version: *mut u64) -> u32;
     pub fn navd_registry_save(registry: *mut Handle, bytes: *mut u8, room: usize, length: *mut usize) -> u32;
     pub fn navd_registry_restore(registry: *mut Handle, bytes: *const u8, length: usize) -> u32;
+    pub fn navd_kinds_open(
+        kinds: *mut Handle,
+        ground: *const Ground,
+        kind: *const Kind,
+        count: usize,
+        costs: *const u32,
+        costs_count: usize,
+        spans: *const Span,
+        spans_count: usize,
+    ) -> u32;
+    pub fn navd_kinds_close(kinds: *mut Handle);
+    pub fn navd_kinds_add_block(kinds: *mut Handle, block: *const Block, area: u32, entry: *mut u32) -> u32;
+    pub fn navd_kinds_add_cylinder(kinds: *mut Handle, cylinder: *const Cylinder, area: u32, entry: *mut u32) -> u32;
+    pub fn navd_kinds_add_prism(kinds: *mut Handle, prism: *const Prism, area: u32, entry: *mut u32) -> u32;
+    pub fn navd_kinds_add_disc(kinds: *mut Handle, disc: *const Disc, area: u32, entry: *mut u32) -> u32;
+    pub fn navd_kinds_remove(kinds: *mut Handle, number: u32, entry: *mut u32) -> u32;
+    pub fn navd_kinds_settle(kinds: *mut Handle, published: *mut u32) -> u32;
+    pub fn navd_kinds_aim(kinds: *mut Handle, target: *mut u32) -> u32;
+    pub fn navd_kinds_renew(kinds: *mut Handle, numbers: *mut u32, room: usize, count: *mut usize) -> u32;
+    pub fn navd_kinds_claim(kinds: *mut Handle, job: *mut Handle, kind: *mut u32, tile: *mut u32) -> u32;
+    pub fn navd_kinds_submit(kinds: *mut Handle, kind: u32, job: *mut Handle) -> u32;
+    pub fn navd_kinds_put_back(kinds: *mut Handle, kind: u32, job: *mut Handle) -> u32;
+    pub fn navd_kinds_put_back_all(kinds: *mut Handle) -> u32;
+    pub fn navd_kinds_step(kinds: *mut Handle, kind: *mut u32, tile: *mut u32) -> u32;
+    pub fn navd_kinds_publish(kinds: *mut Handle, kind: *mut u32, number: *mut u32) -> u32;
+    pub fn navd_kinds_count(kinds: *mut Handle, kind: u32, counts: *mut Counts) -> u32;
+    pub fn navd_kinds_look(view: *mut Handle, kinds: *mut Handle, kind: u32, published: *mut u32) -> u32;
     pub fn navd_view_set_costs(view: *mut Handle, costs: *const u32, count: usize) -> u32;
     pub fn navd_view_count(view: *mut Handle, shown: *mut Shown) -> u32;
     pub fn navd_view_find_hop(

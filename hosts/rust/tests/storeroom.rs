@@ -170,6 +170,9 @@ fn obstacles_keep_their_ids() {
     let mut view = View::of_registry(&mut registry).unwrap();
     while registry.update(1).unwrap().pending {}
     assert_eq!(view.look_at(&mut registry).unwrap(), 2);
+    // what was never built is saved, since a build of shapes as they were before is remembered
+    registry.move_to(id, &Solid::Block(Block { x0: 2, x1: 3, y0: 0, y1: 100, z0: 2, z1: 3 }), 0).unwrap();
+    let rows = registry.rows().unwrap();
     let saved = registry.save().unwrap();
     registry.remove(id).unwrap();
     assert_eq!(registry.rows().unwrap().len(), 1);
@@ -193,7 +196,7 @@ fn obstacles_keep_their_ids() {
     }
     assert!(registry.update(0).unwrap().published);
     let mut copy = view.duplicate().unwrap();
-    assert_eq!(view.look_at(&mut registry).unwrap(), 3);
+    assert_eq!(view.look_at(&mut registry).unwrap(), 4);
     assert_ne!(copy.shown().unwrap().published, view.shown().unwrap().published);
     registry.put_back_all();
     let mut level = Level::open(TEXT).unwrap();
