@@ -7,7 +7,7 @@
 #   partial: a way to the nearest place, to the question that is answered by NAVD_NO_PATH [1.5]
 #   flood: 128 cells, to findPolysAroundCircle [1.0]
 #   ways_to_one: the ways of all starts to one goal by one flood back, to a circle round all [1.3]
-#   changed_tiles: one door [5000 ns]; check_a_link: a kept path [20 ns a link]
+#   changed_tiles: one door [5000 ns]; check_a_link: a kept path that is checked again and again [20 ns a link]; check_in_turn: one after the other
 #   follow: a step of half a cell, 8 links ahead, to findCorners, isValid and movePosition [1.0]
 # usage: bench/ways.sh [PEER [INPUT..]]
 set -eu

@@ -3,7 +3,8 @@
  *     worlds KIND COUNT
  *
  * In a world of 102 by 102 metres, 512 by 512 columns in tiles of 32, with 500 pillars and 24 doors of which one turns in each frame, COUNT times:
- *     path, plan          a way between two places and its corners; navd_view_plan between the same, without heights
+ *     path, exact_path    a way between two points and its corners; the calls of navd.h for the same: places of the points, the plan, the height at
+ *                         each corner, and points of the corners
  *     update, exact       an update that builds what a door changed; navd_registry_update
  *     refresh, copy       a snapshot takes what is new, in turn with seven others; navd_view_copy out of a view, and the close of what was copied before
  * A line is written: the kind, the nanoseconds a call by the clock, and how many there were. A program that is built with COUNTED collects the
@@ -92,24 +93,40 @@ static void turn(int frame) {
     want(navd_world_move(world, doors[frame % DOORS], &door) == NAVD_OK, "a door turns");
 }
 
-/* Ways that there are, each asked over the thin layer and exactly. */
-static void ask(bool exactly, int count) {
+/* A way and its corners by the calls of navd.h. */
+static uint32_t find_exactly(navd_view *view, const navd_frame *frame, const navd_vec3 *ends) {
     static navd_link links[ROOM];
     static navd_turn turns[ROOM];
+    static navd_frame_place places[ROOM + 2];
+    static navd_vec3 points[ROOM + 2];
+    static const uint32_t no_costs[1];
+    size_t count;
+    if (navd_quantize(frame, ends, 2, places, 2, &count) != NAVD_OK) return NAVD_OUT_OF_RANGE;
+    navd_plan plan = {.way = {{places[0].x, places[0].z}, (uint32_t)places[0].y + 1, {places[1].x, places[1].z}, (uint32_t)places[1].y + 1},
+                      .areas = UINT64_MAX, .most_cost = UINT64_MAX, .most_polygons = SIZE_MAX};
+    uint32_t status = navd_view_plan(view, &plan, no_costs, 0, links, ROOM, turns, ROOM);
+    if (status != NAVD_OK) return status;
+    navd_place at = {plan.first, plan.way.from, plan.way.from_y};
+    for (count = 0; count < plan.turns + 2; count++) {
+        if (count == plan.turns + 1) at.polygon = plan.last, at.at = plan.end;
+        else if (count) at.polygon = links[turns[count - 1].link].to, at.at = turns[count - 1].at;
+        status = navd_view_height(view, &at);
+        if (status != NAVD_OK && status != NAVD_NO_PLACE) return status;
+        places[count] = (navd_frame_place){at.at.x, (int32_t)at.y, at.at.z};
+    }
+    return navd_dequantize(frame, places, count, points, count, &count);
+}
+
+/* Ways that there are, each asked over the thin layer or exactly. */
+static void ask(bool exactly, int count) {
     navd_route *route;
-    const navd_mesh *mesh = navd_world_mesh(world);
+    const navd_frame *frame = &navd_world_mesh(world)->frame;
     want(navd_route_create(&route) == NAVD_OK, "a route");
     for (int found = 0; found < count;) {
         navd_vec3 ends[2] = {{pick(side), 0, pick(side)}, {pick(side), 0, pick(side)}};
-        navd_frame_place places[2];
-        size_t turned;
-        want(navd_quantize(&mesh->frame, ends, 2, places, 2, &turned) == NAVD_OK, "two places");
         if (navd_snapshot_find_path(snapshots[0], NULL, &ends[0], &ends[1], route) != NAVD_OK) continue;
-        navd_plan plan = {.way = {{places[0].x, places[0].z}, (uint32_t)places[0].y + 1, {places[1].x, places[1].z}, (uint32_t)places[1].y + 1},
-                          .areas = UINT64_MAX, .most_cost = UINT64_MAX, .most_polygons = SIZE_MAX};
-        uint32_t no_costs[1] = {0};
         begin();
-        uint32_t status = exactly ? navd_view_plan(navd_snapshot_view(snapshots[0]), &plan, no_costs, 0, links, ROOM, turns, ROOM)
+        uint32_t status = exactly ? find_exactly(navd_snapshot_view(snapshots[0]), frame, ends)
                                   : navd_snapshot_find_path(snapshots[0], NULL, &ends[0], &ends[1], route);
         end();
         want(status == NAVD_OK, "a way");
@@ -151,7 +168,7 @@ int main(int argc, char **words) {
         const char *name;
         void (*time)(bool, int);
         bool is_exact;
-    } kinds[] = {{"path", ask, false}, {"plan", ask, true}, {"update", update, false}, {"exact", update, true}, {"refresh", refresh, false},
+    } kinds[] = {{"path", ask, false}, {"exact_path", ask, true}, {"update", update, false}, {"exact", update, true}, {"refresh", refresh, false},
                  {"copy", refresh, true}};
     int count = argc == 3 ? atoi(words[2]) : 0;
     for (size_t i = 0; count > 0 && i < sizeof kinds / sizeof *kinds; i++)

@@ -1,5 +1,5 @@
 #!/bin/sh
-# Times the thin layer in a game's own numbers beside the calls of navd.h that do the same: ways with their corners beside navd_view_plan, updates beside
+# Times the thin layer in a game's own numbers beside the calls of navd.h that do the same: ways with their corners, updates beside
 # navd_registry_update, and the refresh of a snapshot where something is new beside navd_view_copy. Each number is the least of RUNS runs in turn. Fails
 # where a way or an update is above 1.05 times the other, or a refresh above a microsecond. With INSTRUCTIONS=1 it counts instructions, by callgrind of the
 # distribution's valgrind, in place of times: a busy machine does not change them; a refresh has no limit then.
@@ -18,7 +18,7 @@ cc -std=c11 -O2 ${INSTRUCTIONS:+-DCOUNTED} -Iinclude bench/worlds.c hosts/world/
 runs=${RUNS:-9}
 [ -z "${INSTRUCTIONS:-}" ] || runs=1
 for _ in $(seq "$runs"); do
-    for kind in path plan update exact refresh copy; do
+    for kind in path exact_path update exact refresh copy; do
         if [ -z "${INSTRUCTIONS:-}" ]; then
             "$work/worlds" $kind "${COUNT:-2000}" >> "$work/told"
         else
@@ -36,7 +36,7 @@ awk -v counts="${INSTRUCTIONS:-}" '
         above = above || (limit && ratio > limit)
     }
     END {
-        told("path", "plan", 1.05)
+        told("path", "exact_path", 1.05)
         told("update", "exact", 1.05)
         told("refresh", "copy", 0)
         exit above || (!counts && least["refresh"] > 1000)

@@ -9,74 +9,15 @@ usage: reference/ways_check.py LIBRARY [LEVELS [SEED]]     (20 levels, seed 1; L
 """
 import random
 import sys
-import tempfile
 from collections import Counter
-from pathlib import Path
 
-from library import TOP, host_and_levels, level_text, refuser, script
-from ways_mesh import NEVER, Filter, Mesh, distance, leg
+from library import host_and_levels, refuser
+from ways_levels import Level, random_place, random_text
+from ways_mesh import NEVER, Filter, distance, leg
 
 navd, levels, first_seed = host_and_levels(__doc__, 20)
 refused = refuser(navd)
-counts, rules = Counter(), {}
-
-
-class Level:
-    """A level's text, what its head says, its obstacles by their numbers, and the view that is asked."""
-
-    def __init__(self, text, level, view):
-        self.text, self.level, self.view, self.obstacles = text, level, view, {}
-        head = [line.split() for line in text.splitlines() if not line.startswith("span ")]
-        numbers = {words[0]: [int(word) for word in words[1:]] for words in head if words[0] in ("size", "tile", "agent", "limit")}
-        self.costs = {int(words[1]): int(words[2]) for words in head if words[0] == "cost"}
-        self.width, self.depth = numbers["size"]
-        self.tiles = -(-self.width // numbers["tile"][0]) * -(-self.depth // numbers["tile"][0])
-        self.climb, self.limit = numbers["agent"][1], numbers["limit"][0]
-
-    def look(self):
-        self.view.look(self.level)
-        self.mesh = Mesh(self.view, self.tiles, self.climb, self.costs)
-
-    def second(self):
-        """What `play_check.py` makes of the text, with the mesh under the obstacles that are there."""
-        with tempfile.TemporaryDirectory() as folder:
-            given, told = Path(folder) / "in", Path(folder) / "out"
-            given.write_text(self.text + "script 1 1\n")
-            told.write_text("done 0 0\n")
-            names, _ = script(TOP / "reference" / "play_check.py", given, told)
-        names["published"] = {number: (*shape, area or None) for number, (shape, area) in self.obstacles.items()}
-        return names
-
-    def compare(self):
-        """The mesh that is shown is that of the second program."""
-        polygons, links = self.second()["mesh_now"]()
-        mesh = self.mesh
-        assert {name: (list(map(tuple, face.corners)), face.area, face.low, face.high) for name, face in mesh.faces.items()} == {
-            name: (list(map(tuple, corners)), *rest) for name, (corners, *rest) in polygons.items()}, "the mesh has other polygons"
-        assert mesh.listed == {(mesh.number[start], edge, mesh.number[end], left, right)
-                               for start, leave in links.items() for edge, end, left, right in leave}, "the mesh has other links"
-        counts["meshes"] += 1
-
-    def change(self, kept):
-        """Adds obstacles, many of them on ways that are kept, and removes some, and publishes."""
-        for _ in range(random.randrange(1, 4)):
-            if len(self.obstacles) == self.limit or self.obstacles and random.randrange(2):
-                number = random.choice(list(self.obstacles))
-                self.level.remove(number)
-                del self.obstacles[number]
-                continue
-            (kind, n), area = shape = random_shape(self, kept)
-            if kind == "block":
-                self.obstacles[self.level.add_block(navd.Block(n[0:2], n[2:4], n[4:6]), area)] = shape
-            else:
-                self.obstacles[self.level.add_cylinder(navd.Cylinder(*n[:3], n[3:]), area)] = shape
-        self.level.settle()
-
-    def is_taut(self, start, links, goal, turns):
-        told = [(turn.at, "LR"[turn.is_right], turn.link) for turn in turns]
-        if not rules:
-            rules.update(self.second())
-        return rules["is_taut"]((start.x, start.z), [link[3:] for link in links], (goal.x, goal.z), told) is None
+counts = Counter()
 
 
 # == The questions ==
@@ -312,28 +253,6 @@ def follow(level, path, start, goal):
 # == Levels ==
 
 
-def random_shape(level, kept):
-    x, z = random.randrange(level.width), random.randrange(level.depth)
-    portals = [link.left for path, *_ in kept for link in path.links]
-    if portals and random.randrange(3):
-        x, z = (max(0, n // 16 - random.randrange(3)) for n in random.choice(portals))
-    low, area = random.choice([0, 5, 20]), random.choice([0, 0, 5, 63])
-    if random.randrange(2):
-        return ("block", [x, min(1023, x + random.randrange(6)), low, low + 60, z, min(1023, z + random.randrange(6))]), area
-    return ("cylinder", [2 * x, 2 * z, random.randrange(3), low, low + 60]), area
-
-
-def random_place(level):
-    """Mostly a place that a polygon holds, or one on its edge."""
-    if not level.mesh.names or random.randrange(8) == 0:
-        return navd.Place(random.randrange(-20, 16 * level.width + 20), random.randrange(-20, 16 * level.depth + 20), random.choice([10, 10, 40]))
-    at = random.randrange(len(level.mesh.names))
-    weights = [random.choice([0, 0, 1, 2]) for _ in level.mesh.corners[at]]
-    weights[random.randrange(len(weights))] += 1
-    x, z = (sum(weight * corner[axis] for weight, corner in zip(weights, level.mesh.corners[at])) // sum(weights) for axis in (0, 1))
-    return navd.Place(x, z, random.randint(*level.mesh.floors[at]))
-
-
 def random_filters():
     """Some filters for the questions of one mesh."""
     areas = lambda: random.choice([NEVER, NEVER, NEVER & ~(1 << 5), NEVER & ~(1 << 63), random.randrange(2**64)])
@@ -374,12 +293,9 @@ def ask_all(level, kept):
 
 
 def run(seed):
-    random.seed(seed)
-    kind, mesh, clear = random.choice(["rough", "smooth"]), random.choice(["strips", "contours"]), random.randrange(2)
-    side, error = random.choice([8, 12, 16, 24, 32]), random.choice([0, 49, 169])
-    text = level_text(side, 0, seed, mesh, error, 0, kind, "areas", "none", clear)
+    text = random_text(seed)
     with navd.Level(text.encode()) as opened, navd.View() as view:
-        level, kept = Level(text, opened, view), []
+        level, kept = Level(navd, text, opened, view, counts), []
         compared = random.randrange(6)
         for number in range(6):
             level.look()

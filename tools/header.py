@@ -9,7 +9,7 @@ field, the same status numbers, and the same version, which the file VERSION has
 
   - a slice of the library is an address and a count, and the count has no name there; ghost fields and an allocator have no bytes
   - the library has no arrays in structs: fields called first, second and so on stand for one, which is called like its elements
-  - the hosts have one struct for the four handles; Python has no names of parameters, C# no arrays in structs, and neither has const
+  - the hosts have one struct for the five handles; Python has no names of parameters, C# no arrays in structs, and neither has const
 
 usage: tools/header.py --check [FOLDER]    of the repository in FOLDER, or of this one; ends with 1, and a line for each difference
 """
@@ -27,14 +27,15 @@ WORLD = "include/navd_world.h"
 # Where the hosts name its calls, and how.
 WORLD_HOSTS = {"hosts/cpp/navd_world.hpp": r"\b(navd_(?:status|world|snapshot|route)_\w+)\(", "hosts/csharp/NavdWorld.cs": r"\bextern \w+ (navd_\w+)\(",
                "hosts/python/navd_world.py": r'"(navd_\w+)", \[', "hosts/rust/src/world_sys.rs": r"\bpub fn (navd_\w+)\("}
-CRATES = ("nav_ffi", "nav_handle", "way_handle", "place_handle", "place_way_handle", "wall_handle", "line_handle", "registry_handle", "mesh_handle", "world_grid")
+CRATES = ("nav_ffi", "nav_handle", "way_handle", "place_handle", "place_way_handle", "wall_handle", "line_handle", "registry_handle", "kinds_handle", "mesh_handle",
+          "world_grid")
 LIBRARY = tuple(f"crates/{name}/src" for name in CRATES)
 C_TYPES = {"uint8_t": "u8", "uint32_t": "u32", "int32_t": "i32", "uint64_t": "u64", "int64_t": "i64", "size_t": "usize", "float": "f32",
            "void": "nothing"}
 CSHARP_TYPES = {"byte": "u8", "uint": "u32", "int": "i32", "ulong": "u64", "long": "i64", "UIntPtr": "usize", "float": "f32", "IntPtr": "pointer",
                 "void": "nothing", "Status": "u32"}
 ORDINALS = ("first", "second", "third", "fourth", "fifth", "sixth", "seventh", "eighth", "")
-HANDLES = ("level", "view", "job", "registry")
+HANDLES = ("level", "view", "job", "registry", "kinds")
 # Numbers by name; fields by struct and parameters by call, each a name, or None where the place has none, and a type; what each call gives back.
 Border = namedtuple("Border", "place numbers structs calls results")
 

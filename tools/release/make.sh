@@ -41,8 +41,11 @@ make_archive() {
 
 # The shared object, and beside it the names that a debugger wants.
 make_shared() {
+    # one copy of functions that are alike, where there is a linker that finds them
+    folds=
+    ! command -v "${tools}ld.gold" >"$work/tool" || folds="-fuse-ld=gold -Wl,--icf=safe"
     python3 "$parts/exports.py" script >"$1/exports.map"
-    "$cc" -shared -o "$1/lib/whole.so" -Wl,--whole-archive "$1/lib/libnavd.a" -Wl,--no-whole-archive -Wl,-soname,$soname \
+    "$cc" -shared $folds -o "$1/lib/whole.so" -Wl,--whole-archive "$1/lib/libnavd.a" -Wl,--no-whole-archive -Wl,-soname,$soname \
         -Wl,--version-script="$1/exports.map" -Wl,-z,relro,-z,now,-z,noexecstack,-z,defs,-z,text -Wl,--gc-sections,--as-needed,--build-id=sha1 \
         2>"$1/errors" || stop "the shared object does not link: $(head -n 1 "$1/errors")"
     "${tools}objcopy" --only-keep-debug "$1/lib/whole.so" "$1/lib/libnavd.so.$version.debug"

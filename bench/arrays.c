@@ -1,0 +1,69 @@
+/* Times the opening of one level from arrays beside that from its triangle text:
+ *
+ *     arrays TEXT KIND
+ *
+ * TEXT is a triangle text. KIND is `text` or `arrays`; the arrays have three vertices of their own for each triangle, in cells. A line is written: the kind,
+ * and the nanoseconds of processor time of the opening. */
+#define _POSIX_C_SOURCE 200809L
+
+#include <inttypes.h>
+#include <stdbool.h>
+#include <stdio.h>
+#include <stdlib.h>
+#include <string.h>
+
+#include "../include/navd.h"
+#include "../hosts/c/common.h"
+
+static void want(bool holds, const char *what) {
+    if (holds) return;
+    fprintf(stderr, "arrays: %s\n", what);
+    exit(1);
+}
+
+static uint32_t number_of(const char *text, const char *name, int place) {
+    const char *line = strstr(text, name);
+    uint32_t number = 0;
+    want(line != NULL, name);
+    line += strlen(name);
+    for (int i = 0; i <= place; i++) number = (uint32_t)strtoul(line, (char **)&line, 10);
+    return number;
+}
+
+int main(int count, char **words) {
+    want(count == 3, "usage: arrays TEXT text | arrays");
+    FILE *file = fopen(words[1], "rb");
+    want(file && !fseek(file, 0, SEEK_END), "no such text");
+    size_t length = (size_t)ftell(file), corners = 0;
+    rewind(file);
+    char *text = malloc(length + 1);
+    float *vertices = malloc(3 * length * sizeof *vertices);
+    uint32_t *indices = malloc(length * sizeof *indices);
+    uint8_t *areas = malloc(length);
+    want(text && vertices && indices && areas && fread(text, 1, length, file) == length, "a text that cannot be read");
+    text[length] = 0;
+    fclose(file);
+    for (const char *line = strstr(text, "\ntri "); line; line = strstr(line + 1, "\ntri ")) {
+        const char *at = line + 5;
+        for (int i = 0; i < 3; i++, corners++) {
+            indices[corners] = (uint32_t)corners;
+            for (int j = 0; j < 3; j++) vertices[3 * corners + (size_t)j] = (float)strtol(at, (char **)&at, 10) / (j == 1 ? 1.0f : 16.0f);
+        }
+        areas[corners / 3 - 1] = (uint8_t)strtol(at, NULL, 10);
+    }
+    navd_mesh mesh = {.frame = {.cell_size = 1, .cell_height = 1}, .slope = {.both_sides = 1}};
+    mesh.setting = (navd_setting){number_of(text, "\nsize ", 0), number_of(text, "\nsize ", 1), number_of(text, "\ntile ", 0), number_of(text, "\nagent ", 0),
+                                  number_of(text, "\nagent ", 1), number_of(text, "\nagent ", 2), number_of(text, "\nerror ", 0),
+                                  strstr(text, "\nmesh contours") != NULL, number_of(text, "\nlimit ", 0), 0};
+    navd_level level = {0};
+    navd_fault fault;
+    navd_mesh_fault mesh_fault;
+    double begun = seconds();
+    uint32_t status = words[2][0] == 't' ? navd_open_triangles(&level, (const uint8_t *)text, length, &fault)
+                                         : navd_open_mesh(&level, &mesh, vertices, 3 * corners, indices, corners, areas, corners / 3, &mesh_fault);
+    double took = seconds() - begun;
+    want(status == NAVD_OK, "no level");
+    printf("%s %.0f\n", words[2], took * 1e9);
+    navd_close(&level);
+    return 0;
+}
