@@ -150,6 +150,14 @@ impl Cone {
         Some(Bend::None)
     }
 
+    /// Round which end of the portal a line to a goal that lies ahead of the portal bends at least.
+    pub(crate) fn bend_ahead(&self, portal: Portal, goal: Point) -> Bend {
+        if self.whole || turn(portal.right, portal.left, goal) > 0 {
+            return Bend::None;
+        }
+        self.way_to(goal).unwrap_or(Bend::None)
+    }
+
     /// Whether all that another cone at the same link sees is seen by this one, from the same root and behind a line that is no longer.
     pub(crate) fn covers(&self, other: &Cone) -> bool {
         self.root == other.root

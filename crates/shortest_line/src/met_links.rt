@@ -87,8 +87,8 @@ impl MetLink {
 #[derive(Drop)]
 pub(crate) struct MetLinks {
     links: Vec<MetLink>,
-    /// By tile and polygon: the number of the first link that leaves it, counted from 1; 0 where none was met. A tile that was not met has none.
-    firsts: Vec<Vec<u32>>,
+    /// By tile and polygon: the numbers of the links that leave it, `NOT_MET` where these were not met. A tile that was not met has none.
+    leaving: Vec<Vec<LinkNumbers>>,
 }
 
 /// Numbers of links, from the first up to before the end.
@@ -98,18 +98,29 @@ pub(crate) struct LinkNumbers {
     pub(crate) end: u32,
 }
 
+/// Stands for the numbers of links that were not met.
+const NOT_MET: LinkNumbers = LinkNumbers {
+    first: NONE,
+    end: NONE,
+};
+
 impl MetLinks {
     /// No link was met.
     pub(crate) fn new(alloc: Global) -> Self {
         MetLinks {
             links: Vec::new(alloc),
-            firsts: Vec::new(alloc),
+            leaving: Vec::new(alloc),
         }
     }
 
     /// What is known of a link.
-    pub(crate) fn get(&self, number: u32) -> Option<MetLink> {
-        self.links.get(number as usize).copied()
+    pub(crate) fn get(&self, number: u32) -> Option<&MetLink> {
+        self.links.get(number as usize)
+    }
+
+    /// A link.
+    pub(crate) fn link(&self, number: u32) -> Option<Link> {
+        self.get(number).map(|met| met.link)
     }
 
     /// What is known of a link, to be changed.
@@ -124,22 +135,18 @@ impl MetLinks {
         mesh: &Mesh,
         at: PolyRef,
     ) -> Result<LinkNumbers, AllocError> {
-        let inside = inner(mesh, at);
-        let outside = outer(mesh, at);
-        let count = counted(inside.len()).wrapping_add(counted(outside.len()));
-        self.add_page(alloc, mesh, at.tile)?;
-        let known = self.first_of(at);
-        if known != 0 {
-            let first = known.wrapping_sub(1);
-            let end = first.wrapping_add(count);
-            return Ok(LinkNumbers { first, end });
+        let known = self.known(at);
+        if known.first != NONE {
+            return Ok(known);
         }
+        self.add_page(alloc, mesh, at.tile)?;
         let first = counted(self.links.len());
-        self.set_first(at, first.wrapping_add(1));
-        self.add(inside)?;
-        self.add(outside)?;
-        let end = first.wrapping_add(count);
-        Ok(LinkNumbers { first, end })
+        self.add(inner(mesh, at))?;
+        self.add(outer(mesh, at))?;
+        let end = counted(self.links.len());
+        let numbers = LinkNumbers { first, end };
+        self.set_known(at, numbers);
+        Ok(numbers)
     }
 
     /// Adds links that no cone came to yet.
@@ -153,34 +160,34 @@ impl MetLinks {
     /// Makes room for the polygons of a tile.
     fn add_page(&mut self, alloc: Global, mesh: &Mesh, tile: u32) -> Result<(), AllocError> {
         let place = tile as usize;
-        for _ in self.firsts.len()..place + 1 {
-            self.firsts.push(Vec::new(alloc))?;
+        for _ in self.leaving.len()..place + 1 {
+            self.leaving.push(Vec::new(alloc))?;
         }
         let Some(built) = mesh.tiles.get(place) else {
             return Ok(());
         };
         let polygons = built.get().polys.len();
-        if let Some(page) = self.firsts.get_mut(place) {
+        if let Some(page) = self.leaving.get_mut(place) {
             if page.len() < polygons {
-                page.resize(polygons, 0)?;
+                page.resize(polygons, NOT_MET)?;
             }
         }
         Ok(())
     }
 
-    /// The number of the first link that leaves a polygon, counted from 1, or 0.
-    fn first_of(&self, at: PolyRef) -> u32 {
-        match self.firsts.get(at.tile as usize) {
-            Some(page) => page.get(at.index as usize).copied().unwrap_or(0),
-            None => 0,
+    /// The numbers of the links that leave a polygon, where they were met.
+    fn known(&self, at: PolyRef) -> LinkNumbers {
+        match self.leaving.get(at.tile as usize) {
+            Some(page) => page.get(at.index as usize).copied().unwrap_or(NOT_MET),
+            None => NOT_MET,
         }
     }
 
-    /// Writes that number.
-    fn set_first(&mut self, at: PolyRef, number: u32) {
-        if let Some(page) = self.firsts.get_mut(at.tile as usize) {
-            if let Some(first) = page.get_mut(at.index as usize) {
-                *first = number;
+    /// Writes these numbers.
+    fn set_known(&mut self, at: PolyRef, numbers: LinkNumbers) {
+        if let Some(page) = self.leaving.get_mut(at.tile as usize) {
+            if let Some(known) = page.get_mut(at.index as usize) {
+                *known = numbers;
             }
         }
     }

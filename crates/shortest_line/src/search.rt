@@ -3,7 +3,7 @@
 use crate::cones::{Bend, Cone};
 use crate::lengths::leg;
 use crate::met_links::{EndLegs, MetLinks, NONE, counted};
-use mesh_types::{Link, Mesh, PolyRef, Side};
+use mesh_types::{Link, Mesh, PolyRef, Portal, Side};
 use nav_base::Point;
 use std::alloc::{AllocError, Global};
 use std::cmp::Reverse;
@@ -65,8 +65,8 @@ impl ConeSearch {
     fn begin(&mut self, alloc: Global, sought: SoughtLine) -> Result<(), AllocError> {
         let numbers = self.met.leaving(alloc, sought.mesh, sought.first)?;
         for number in numbers.first..numbers.end {
-            if let Some(met) = self.met.get(number) {
-                let cone = Cone::through(met.link.portal, sought.from, 0, 0);
+            if let Some(link) = self.met.link(number) {
+                let cone = Cone::through(link.portal, sought.from, 0, 0);
                 self.push(sought, cone, number, NONE, 0)?;
             }
         }
@@ -103,25 +103,28 @@ impl ConeSearch {
         key: u64,
         number: u32,
     ) -> Result<(), AllocError> {
+        if self.is_passed_over(number) {
+            return Ok(());
+        }
         let Some(made) = self.cones.get(number as usize).copied() else {
             return Ok(());
         };
-        if self.is_passed_over(&made) {
-            return Ok(());
-        }
         self.mark_taken(made.link, number);
-        let Some(met) = self.met.get(made.link) else {
+        let Some(link) = self.met.link(made.link) else {
             return Ok(());
         };
-        if met.link.to == sought.last {
-            self.finish(sought, &made, met.link, number);
+        if link.to == sought.last {
+            self.finish(sought, &made, link, number);
             return Ok(());
         }
-        self.follow(alloc, sought, made, met.link, (key, number))
+        self.follow(alloc, sought, &made, link, (key, number))
     }
 
     /// Whether other lines to the link of a cone are shorter than any by it, or a cone taken there sees all that it sees.
-    fn is_passed_over(&self, made: &MadeCone) -> bool {
+    fn is_passed_over(&self, number: u32) -> bool {
+        let Some(made) = self.cones.get(number as usize) else {
+            return true;
+        };
         let Some(met) = self.met.get(made.link) else {
             return true;
         };
@@ -157,17 +160,7 @@ impl ConeSearch {
         let Some(bend) = made.cone.way_to(sought.goal) else {
             return;
         };
-        let rest = match bend {
-            Bend::None => leg(made.cone.root, sought.goal),
-            Bend::Left => made
-                .legs
-                .left
-                .wrapping_add(leg(link.portal.left, sought.goal)),
-            Bend::Right => made
-                .legs
-                .right
-                .wrapping_add(leg(link.portal.right, sought.goal)),
-        };
+        let rest = rest_round(bend, made.cone.root, made.legs, link.portal, sought.goal);
         let len = made.cone.len.wrapping_add(rest);
         if len < self.best {
             self.best = len;
@@ -180,15 +173,15 @@ impl ConeSearch {
         &mut self,
         alloc: Global,
         sought: SoughtLine,
-        made: MadeCone,
+        made: &MadeCone,
         link: Link,
         taken: (u64, u32),
     ) -> Result<(), AllocError> {
         let numbers = self.met.leaving(alloc, sought.mesh, link.to)?;
         for number in numbers.first..numbers.end {
-            if let Some(next) = self.met.get(number) {
-                if next.link.to != link.from {
-                    self.follow_over(sought, made, (link, next.link), number, taken)?;
+            if let Some(next) = self.met.link(number) {
+                if next.to != link.from {
+                    self.follow_over(sought, made, (link.portal, next.portal), number, taken)?;
                 }
             }
         }
@@ -199,14 +192,14 @@ impl ConeSearch {
     fn follow_over(
         &mut self,
         sought: SoughtLine,
-        made: MadeCone,
-        links: (Link, Link),
+        made: &MadeCone,
+        portals: (Portal, Portal),
         number: u32,
         taken: (u64, u32),
     ) -> Result<(), AllocError> {
-        let (portal, next) = (links.0.portal, links.1.portal);
+        let (portal, next) = portals;
         let (floor, parent) = taken;
-        let cone = made.cone;
+        let cone = &made.cone;
         if cone.whole {
             let on = Cone::through(next, cone.root, cone.len, cone.legs);
             return self.push(sought, on, number, parent, floor);
@@ -242,8 +235,8 @@ impl ConeSearch {
         }
     }
 
-    /// A cone comes to a link. It waits, unless other lines there are shorter, or the straight rest is too long. No key is less than that of the
-    /// cone that it came of.
+    /// A cone comes to a link. It waits, unless other lines there are shorter, or the least rest is too long: the straight one, or the one round an end
+    /// of the portal behind which the goal lies. No key is less than that of the cone that it came of.
     fn push(
         &mut self,
         sought: SoughtLine,
@@ -255,15 +248,18 @@ impl ConeSearch {
         let Some(met) = self.met.get_mut(link) else {
             return Ok(());
         };
+        let portal = met.link.portal;
         let legs = EndLegs {
-            left: leg(cone.root, met.link.portal.left),
-            right: leg(cone.root, met.link.portal.right),
+            left: leg(cone.root, portal.left),
+            right: leg(cone.root, portal.right),
         };
         met.reach(&cone, legs);
         if met.beats(&cone, legs) {
             return Ok(());
         }
-        let key = floor.max(cone.len.wrapping_add(leg(cone.root, sought.goal)));
+        let bend = cone.bend_ahead(portal, sought.goal);
+        let rest = rest_round(bend, cone.root, legs, portal, sought.goal);
+        let key = floor.max(cone.len.wrapping_add(rest));
         if key >= self.best {
             return Ok(());
         }
@@ -287,13 +283,22 @@ impl ConeSearch {
             let Some(made) = self.cones.get(number as usize) else {
                 break;
             };
-            let Some(met) = self.met.get(made.link) else {
+            let Some(link) = self.met.link(made.link) else {
                 break;
             };
-            links.push(met.link)?;
+            links.push(link)?;
             number = made.parent;
         }
         links.reverse();
         Ok(links)
+    }
+}
+
+/// Parts from the root of a cone to a goal, straight or round an end of its portal.
+fn rest_round(bend: Bend, root: Point, legs: EndLegs, portal: Portal, goal: Point) -> u64 {
+    match bend {
+        Bend::None => leg(root, goal),
+        Bend::Left => legs.left.wrapping_add(leg(portal.left, goal)),
+        Bend::Right => legs.right.wrapping_add(leg(portal.right, goal)),
     }
 }
