@@ -13,7 +13,7 @@ if [ -z "${LIB:-}" ]; then
     LIB=crates/nav_ffi/out/libnav_ffi.a
 fi
 cc -std=c11 -O2 -DCOUNTED bench/lines.c hosts/c/heap.c "$LIB" -lm -o "$work/lines"
-c++ -O2 -std=c++17 -DCOUNTED -I/usr/include/recastnavigation bench/lines_peer.cpp -o "$work/peer" -lDetourTileCache -lDetour -lRecast
+c++ -O2 -std=c++17 -DCOUNTED -I/usr/include/recastnavigation bench/lines_peer.cpp -o "$work/peer_program" -lDetourTileCache -lDetour -lRecast
 
 # counted NAME PROGRAM..: a line for each kind, its name and the instructions of a question
 counted() {
@@ -33,7 +33,7 @@ counted() {
 beside() {
     "$work/lines" "$2" make "${COUNT:-100}" > "$work/pairs"
     counted own "$work/lines" "$2" ask "$work/pairs" "$3"
-    counted peer "$work/peer" "$2" "$work/pairs" "$3"
+    counted peer "$work/peer_program" "$2" "$work/pairs" "$3"
     awk -v level="$1" '
         BEGIN { most["quick"] = 1.5; most["whole"] = 1.7 }
         NR == FNR { own[$1] = $2; asked[$1] = $3 " of " $4; next }
