@@ -6,20 +6,10 @@
  * and the nanoseconds of processor time of the opening. */
 #define _POSIX_C_SOURCE 200809L
 
-#include <inttypes.h>
-#include <stdbool.h>
-#include <stdio.h>
-#include <stdlib.h>
-#include <string.h>
 
-#include "../include/navd.h"
+#define PROGRAM "arrays"
+#include "opened.h"
 #include "../hosts/c/common.h"
-
-static void want(bool holds, const char *what) {
-    if (holds) return;
-    fprintf(stderr, "arrays: %s\n", what);
-    exit(1);
-}
 
 static uint32_t number_of(const char *text, const char *name, int place) {
     const char *line = strstr(text, name);
@@ -32,17 +22,12 @@ static uint32_t number_of(const char *text, const char *name, int place) {
 
 int main(int count, char **words) {
     want(count == 3, "usage: arrays TEXT text | arrays");
-    FILE *file = fopen(words[1], "rb");
-    want(file && !fseek(file, 0, SEEK_END), "no such text");
-    size_t length = (size_t)ftell(file), corners = 0;
-    rewind(file);
-    char *text = malloc(length + 1);
+    size_t length, corners = 0;
+    char *text = text_of(words[1], &length);
     float *vertices = malloc(3 * length * sizeof *vertices);
     uint32_t *indices = malloc(length * sizeof *indices);
     uint8_t *areas = malloc(length);
-    want(text && vertices && indices && areas && fread(text, 1, length, file) == length, "a text that cannot be read");
-    text[length] = 0;
-    fclose(file);
+    want(vertices && indices && areas, "no memory");
     for (const char *line = strstr(text, "\ntri "); line; line = strstr(line + 1, "\ntri ")) {
         const char *at = line + 5;
         for (int i = 0; i < 3; i++, corners++) {
@@ -55,7 +40,6 @@ int main(int count, char **words) {
     mesh.setting = (navd_setting){number_of(text, "\nsize ", 0), number_of(text, "\nsize ", 1), number_of(text, "\ntile ", 0), number_of(text, "\nagent ", 0),
                                   number_of(text, "\nagent ", 1), number_of(text, "\nagent ", 2), number_of(text, "\nerror ", 0),
                                   strstr(text, "\nmesh contours") != NULL, number_of(text, "\nlimit ", 0), 0};
-    navd_level level = {0};
     navd_fault fault;
     navd_mesh_fault mesh_fault;
     double begun = seconds();

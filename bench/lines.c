@@ -8,13 +8,9 @@
  * not read. */
 #define _POSIX_C_SOURCE 200809L
 
-#include <inttypes.h>
-#include <stdbool.h>
-#include <stdio.h>
-#include <stdlib.h>
-#include <string.h>
 
-#include "../include/navd.h"
+#define PROGRAM "lines"
+#include "opened.h"
 #include "../hosts/c/common.h"
 #include "counted.h"
 
@@ -22,38 +18,12 @@ enum { QUICK, WHOLE, KINDS, ROOM = 1 << 16 };
 
 static const char *const kinds[KINDS] = {"quick", "whole"};
 
-static navd_level level;
 static navd_view view;
-static uint32_t width, depth;
 static navd_link links[ROOM];
 static navd_turn turns[ROOM];
 static navd_way *ways;
 static size_t way_count;
 static uint64_t uppers[KINDS];
-
-static void want(bool holds, const char *what) {
-    if (holds) return;
-    fprintf(stderr, "lines: %s\n", what);
-    exit(1);
-}
-
-static void open_level(const char *path) {
-    FILE *file = fopen(path, "rb");
-    want(file && !fseek(file, 0, SEEK_END), "no such level");
-    size_t length = (size_t)ftell(file);
-    rewind(file);
-    char *text = malloc(length + 1);
-    want(text && fread(text, 1, length, file) == length, "a level that cannot be read");
-    text[length] = 0;
-    fclose(file);
-    const char *size = strstr(text, "\nsize ");
-    want(size && sscanf(size, "\nsize %" SCNu32 " %" SCNu32, &width, &depth) == 2, "no size");
-    navd_fault fault;
-    uint32_t published;
-    want(navd_open(&level, (const uint8_t *)text, length, &fault) == NAVD_OK, "no level");
-    want(navd_look(&view, &level, &published) == NAVD_OK, "no view");
-    free(text);
-}
 
 /* A random floor's middle. */
 static bool find_floor(uint64_t *seed, navd_point *at, uint32_t *y) {
@@ -123,7 +93,9 @@ static void ask(const char *path, int rounds) {
 int main(int count, char **words) {
     bool is_ask = count == 6 && !strcmp(words[2], "ask"), is_make = count == 4 && !strcmp(words[2], "make");
     want(is_ask || is_make, "usage: lines LEVEL make COUNT | ask PAIRS UNIT ROUNDS");
+    uint32_t published;
     open_level(words[1]);
+    want(navd_look(&view, &level, &published) == NAVD_OK, "no view");
     if (is_make) make(atol(words[3]));
     if (is_ask) ask(words[3], atoi(words[5]));
     navd_view_close(&view);

@@ -11,14 +11,10 @@
  * many have an answer, and how many were asked; and `height` for the heights at the places that were found. Slides tell the height where they end. */
 #define _POSIX_C_SOURCE 200809L
 
-#include <inttypes.h>
 #include <math.h>
-#include <stdbool.h>
-#include <stdio.h>
-#include <stdlib.h>
-#include <string.h>
 
-#include "../include/navd.h"
+#define PROGRAM "places"
+#include "opened.h"
 #include "../hosts/c/common.h"
 #include "counted.h"
 
@@ -39,18 +35,9 @@ typedef struct {
     uint64_t draw;
 } question;
 
-static navd_level level;
 static navd_view view;
-static char *text;
-static uint32_t width, depth;
 static spot *floors;
 static size_t floor_count;
-
-static void want(bool holds, const char *what) {
-    if (holds) return;
-    fprintf(stderr, "places: %s\n", what);
-    exit(1);
-}
 
 static uint64_t random_number(void) {
     static uint64_t seed = 7;
@@ -59,23 +46,6 @@ static uint64_t random_number(void) {
 
 static uint32_t pick(uint32_t below) {
     return (uint32_t)((random_number() >> 33) % below);
-}
-
-static void open_level(const char *path) {
-    FILE *file = fopen(path, "rb");
-    want(file && !fseek(file, 0, SEEK_END), "no such level");
-    size_t length = (size_t)ftell(file);
-    rewind(file);
-    text = malloc(length + 1);
-    want(text && fread(text, 1, length, file) == length, "a level that cannot be read");
-    text[length] = 0;
-    fclose(file);
-    const char *size = strstr(text, "\nsize ");
-    want(size && sscanf(size, "\nsize %" SCNu32 " %" SCNu32, &width, &depth) == 2, "no size");
-    navd_fault fault;
-    uint32_t published;
-    want(navd_open(&level, (const uint8_t *)text, length, &fault) == NAVD_OK, "no level");
-    want(navd_look(&view, &level, &published) == NAVD_OK, "no view");
 }
 
 /* == Questions are made == */
@@ -229,7 +199,9 @@ int main(int argc, char **words) {
     const char *usage = "usage: places LEVEL make COUNT | ask QUESTIONS UNIT ROUNDS";
     bool is_ask = argc == 6 && !strcmp(words[2], "ask"), is_make = argc == 4 && !strcmp(words[2], "make");
     want(is_ask || is_make, usage);
+    uint32_t published;
     open_level(words[1]);
+    want(navd_look(&view, &level, &published) == NAVD_OK, "no view");
     if (is_make) find_floors(), make(atol(words[3]));
     if (is_ask) ask(words[3], atof(words[4]), atoi(words[5]));
     navd_view_close(&view);

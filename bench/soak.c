@@ -8,50 +8,22 @@
  * `memory`, the heap in use there and there, in bytes, and the ratio; `found`, how many of the 100 questions have a path there and there. */
 #define _POSIX_C_SOURCE 200809L
 
-#include <inttypes.h>
 #include <malloc.h>
-#include <stdbool.h>
-#include <stdio.h>
-#include <stdlib.h>
-#include <string.h>
 
-#include "../include/navd.h"
+#define PROGRAM "soak"
+#include "opened.h"
 #include "../hosts/c/common.h"
 
 enum { DOORS = 24, PATHS = 100, ROUNDS = 9, MOST_LINKS = 65536, MOST_ENTRIES = 100000 };
 
-static navd_level level;
-static uint32_t width, depth;
 static navd_block doors[DOORS];
 static uint32_t numbers[DOORS]; /* of the obstacle that shuts a door; 0 for an open one */
 static uint32_t entries;
 static navd_way ways[PATHS];
 
-static void want(bool holds, const char *what) {
-    if (holds) return;
-    fprintf(stderr, "soak: %s\n", what);
-    exit(1);
-}
-
 static uint32_t pick(uint32_t below) {
     static uint64_t seed = 7;
     return pick_by(&seed, below);
-}
-
-static void open_level(const char *path) {
-    FILE *file = fopen(path, "rb");
-    want(file && !fseek(file, 0, SEEK_END), "no such level");
-    size_t length = (size_t)ftell(file);
-    rewind(file);
-    char *text = malloc(length + 1);
-    want(text && fread(text, 1, length, file) == length, "a level that cannot be read");
-    text[length] = 0;
-    fclose(file);
-    const char *size = strstr(text, "\nsize ");
-    want(size && sscanf(size, "\nsize %" SCNu32 " %" SCNu32, &width, &depth) == 2, "no size");
-    navd_fault fault;
-    want(navd_open(&level, (const uint8_t *)text, length, &fault) == NAVD_OK, "no level");
-    free(text);
 }
 
 static void settle(void) {

@@ -1,0 +1,43 @@
+/* What programs that open one level share: the level and its size, and the text of a file. PROGRAM, a string, is what a message begins with. */
+#pragma once
+
+#include <inttypes.h>
+#include <stdbool.h>
+#include <stdio.h>
+#include <stdlib.h>
+#include <string.h>
+
+#include "../include/navd.h"
+
+static navd_level level;
+static uint32_t width, depth;
+
+static void want(bool holds, const char *what) {
+    if (holds) return;
+    fprintf(stderr, "%s: %s\n", PROGRAM, what);
+    exit(1);
+}
+
+/* The text of a file, with a 0 behind it, and its length without that. */
+static char *text_of(const char *path, size_t *length) {
+    FILE *file = fopen(path, "rb");
+    want(file && !fseek(file, 0, SEEK_END), "no such text");
+    *length = (size_t)ftell(file);
+    rewind(file);
+    char *text = malloc(*length + 1);
+    want(text && fread(text, 1, *length, file) == *length, "a text that cannot be read");
+    text[*length] = 0;
+    fclose(file);
+    return text;
+}
+
+/* Opens the level of a field text. */
+static inline void open_level(const char *path) {
+    size_t length;
+    char *text = text_of(path, &length);
+    const char *size = strstr(text, "\nsize ");
+    want(size && sscanf(size, "\nsize %" SCNu32 " %" SCNu32, &width, &depth) == 2, "no size");
+    navd_fault fault;
+    want(navd_open(&level, (const uint8_t *)text, length, &fault) == NAVD_OK, "no level");
+    free(text);
+}
