@@ -1,10 +1,13 @@
 -- What was found, and a floor that is looked at: the nearer of the two.
-use Rattle.std.proofs.Common.{◌≡◌, ℕ, ◌≤◌, ◌<◌, ◌⊎◌, inl, inr, refl, subst, true, false, arith}
+use Rattle.std.proofs.Common.{◌≡◌, ℕ, ◌≤◌, ◌<◌, ◌⊎◌, inl, inr, refl, subst, ap, ◌∙◌, sym, true, false, arith}
 use Rattle.std.specs.Prelude.{Bool, ◌||◌, ◌&&◌, ◌==◌, nat_lt, if◌then◌else◌, Option, Some, None}
 use Rattle.std.proofs.lemmas.Bool.{true≢false}
 use Rattle.std.proofs.lemmas.Option.{same_Some}
+use Rattle.mesh_types.specs.declared.storeys.FloorRow.{FloorRow}
+use Rattle.mesh_place.specs.declared.floors.Aim.{Aim}
 use Rattle.mesh_place.specs.declared.floors.NearFloor.{NearFloor}
-use Rattle.mesh_place.specs.Floors.{height_off, is_nearer, nearer_floor, IsNoFarther}
+use Rattle.mesh_place.specs.Columns.{span_under}
+use Rattle.mesh_place.specs.Floors.{cell_floor, column_in, height_off, is_nearer, nearer_floor, nearer_of_row, IsNoFarther}
 
 -- what was found is no farther than a floor; nothing is none
 abbrev pub NoFarther : ℕ → Option NearFloor → ℕ → ℕ → Type 0
@@ -58,3 +61,24 @@ one_of P y best floor before here = by (is_nearer y floor best)
     by : (b : Bool) (f : NearFloor) → (if b then Some floor else best) ≡ Some f → P f
     by true f is = subst P (same_Some floor f is) here
     by false f is = before f is
+
+-- a floor that was looked at already changes nothing
+pub again : (y : ℕ) (best : Option NearFloor) (floor : NearFloor) → nearer_floor y (nearer_floor y best floor) floor ≡ nearer_floor y best floor
+again y best floor = by (is_nearer y floor best) refl
+  where
+    either : (b : Bool) → (if b then Some floor else Some floor) ≡ Some floor
+    either true = refl
+    either false = refl
+
+    by : (b : Bool) → is_nearer y floor best ≡ b → nearer_floor y (if b then Some floor else best) floor ≡ (if b then Some floor else best)
+    by true is = either (is_nearer y floor (Some floor))
+    by false is = ap (λ (b : Bool). if b then Some floor else best) is
+
+-- where both columns nearest to a point are one, the floor of that one decides
+pub one_column : (row : FloorRow) (z : ℕ) (aim : Aim) (best : Option NearFloor) (left right : ℕ) → left ≡ column_in row (span_under aim.p.x).first
+    → right ≡ column_in row (span_under aim.p.x).last → left ≡ right
+    → (found : Option NearFloor) → found ≡ nearer_floor aim.y best (cell_floor row left z aim.p) → found ≡ nearer_of_row row z aim best
+one_column row z aim best left right first last same found is =
+    is ∙ sym (again aim.y best (cell_floor row left z aim.p))
+    ∙ ap (λ (x : ℕ). nearer_floor aim.y (nearer_floor aim.y best (cell_floor row left z aim.p)) (cell_floor row x z aim.p)) (same ∙ last)
+    ∙ ap (λ (x : ℕ). nearer_floor aim.y (nearer_floor aim.y best (cell_floor row x z aim.p)) (cell_floor row (column_in row (span_under aim.p.x).last) z aim.p)) first

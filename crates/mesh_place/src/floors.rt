@@ -65,9 +65,13 @@ fn nearer_of_row(row: &FloorRow, z: u32, aim: Aim, best: Option<NearFloor>) -> O
     ensures { result ≡ nearer_of_row row.now z aim best }
 {
     let under = span_under(aim.p.x);
-    let first = cell_floor(row, column_in(row, under.first), z, aim.p);
-    let last = cell_floor(row, column_in(row, under.last), z, aim.p);
-    nearer_floor(aim.y, nearer_floor(aim.y, best, first), last)
+    let left = column_in(row, under.first);
+    let right = column_in(row, under.last);
+    let nearer = nearer_floor(aim.y, best, cell_floor(row, left, z, aim.p));
+    if left == right {
+        return nearer;
+    }
+    nearer_floor(aim.y, nearer, cell_floor(row, right, z, aim.p))
 }
 
 /// The column of a row that is nearest to a column.

@@ -13,66 +13,83 @@ use mesh_types::{Polygon, Polygons, edge_ends};
 use nav_base::{Point, ceil_sqrt, orient};
 use nav_ground::{Setting, TileNo};
 
+/// Where the nearest place of a polygon is likely to be.
+#[derive(Clone, Copy)]
+struct Likely {
+    /// The square of how far it is in the plane, in sixteenths.
+    flat: u64,
+    /// What its height adds to the measure.
+    high: u64,
+}
+
 /// The place of the polygon of a tile that is likely to have the nearest place, by how far it is and by its range of floors; that of none
-/// where none has a place in reach by these.
+/// where none has a place in reach by these. The first that holds the point, with a floor that is not far, is taken at once.
 pub(crate) fn likely_polygon(polygons: &Polygons, climb: u32, asked: &Near) -> u32
     requires polygons { All IsPolygon polygons.now }
     requires asked { CanAskNear asked.now }
 {
     let square = square_around(asked.point, asked.reach);
+    let close = height_square(climb, asked, CLOSE_FLOORS);
     let mut likely = u32::MAX;
     let mut least = u64::MAX;
     let mut place = 0_u32;
     for i in 0..polygons.len() {
-        let measure = likely_measure(polygons, i, climb, asked, &square, least);
-        if measure < least {
-            least = measure;
+        if let Some(found) = likely_of(polygons, i, climb, asked, &square, least) {
+            least = found.flat.wrapping_add(found.high);
             likely = place;
-        }
-        if least == 0 {
-            return likely;
+            if found.flat == 0 && found.high <= close {
+                return likely;
+            }
         }
         place = place.wrapping_add(1);
     }
     likely
 }
 
-/// The measure that the nearest place of a polygon in a square is likely to have, if that is less than another; that other else. Where the
-/// point lies outside the polygon's box, the box stands for the polygon.
-fn likely_measure(
+/// How far a floor may be from the height asked for, in height units, that is taken for the one meant.
+const CLOSE_FLOORS: u32 = 64;
+
+/// Where the nearest place of a polygon in a square is likely to be, if its measure is then less than another. Where the point lies outside
+/// the polygon's box, the box stands for the polygon.
+fn likely_of(
     polygons: &Polygons,
     place: usize,
     climb: u32,
     asked: &Near,
     square: &ReachSquare,
     least: u64,
-) -> u64
+) -> Option<Likely>
     requires polygons { All IsPolygon polygons.now }
     requires there { place < length polygons.now }
     requires asked { CanAskNear asked.now }
 {
     let extent = polygons.extent(place);
     if !meets(square, extent) {
-        return least;
+        return None;
     }
     let gap = box_gap(extent, asked.point);
     if gap >= least || !is_open(asked.areas, extent.area) {
-        return least;
+        return None;
     }
     let polygon = polygons.at(place);
-    let Some(off) = floors_off(&polygon, asked) else {
-        return least;
+    let high = height_square(climb, asked, floors_off(&polygon, asked)?);
+    let flat = if gap > 0 {
+        gap
+    } else if high >= least {
+        return None;
+    } else {
+        square_outside(&polygon, asked.point).unwrap_or(0)
     };
+    if flat.wrapping_add(high) >= least {
+        return None;
+    }
+    Some(Likely { flat, high })
+}
+
+/// What a floor that is so far off adds to the measure.
+fn height_square(climb: u32, asked: &Near, off: u32) -> u64 {
     let over = u64::from(asked.weight).wrapping_mul(u64::from(off.saturating_sub(climb)));
-    let high = over.wrapping_mul(over);
-    if gap.wrapping_add(high) >= least {
-        return least;
-    }
-    if gap > 0 {
-        return gap.wrapping_add(high);
-    }
-    let flat = square_outside(&polygon, asked.point).unwrap_or(0);
-    least.min(flat.wrapping_add(high))
+    over.wrapping_mul(over)
 }
 
 /// How far the range of a polygon's floors is from the height asked for; none where it is out of reach.

@@ -27,5 +27,5 @@ pub use boxes::box_gap;
 pub use heights::{HeightAnswer, HeightAt, height, height_held, is_place, is_place_of};
 pub use held_points::nearest_held;
 pub use mesh_types::MeshPlace;
-pub use near::{Near, NearAnswer};
+pub use near::{Near, NearAnswer, is_open};
 pub use nearest_place::nearest;

@@ -41,8 +41,8 @@ pub enum NearAnswer {
     NoneInReach,
 }
 
-/// Whether an area is open.
-pub(crate) fn is_open(areas: u64, area: u32) -> bool
+/// Whether an area is open, by a bit for each: bit a, from 0 for the lowest, is that of area a.
+pub fn is_open(areas: u64, area: u32) -> bool
     requires { area < 64 }
     ensures { result ≡ is_open areas area }
 {

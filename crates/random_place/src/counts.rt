@@ -2,12 +2,12 @@
 
 ghost use Rattle.std.specs.Prelude.{◌≡◌, ◌^◌, ◌≤◌, ◌<◌, length};
 ghost use Rattle.nav_ground.specs.Limits.{IsSetting};
-ghost use Rattle.mesh_place.specs.Nearest.{is_open};
 ghost use Rattle.mesh_types.specs.Reaches.{IsReach};
 ghost use Rattle.mesh_types.specs.Soundness.{IsSound};
 ghost use Rattle.mesh_types.specs.Storeys.{IsStorey};
 ghost use Rattle.random_place.specs.Spots.{open_cells, open_cells_in, spots_of};
 
+use mesh_place::is_open;
 use mesh_types::{Mesh, Storey, StoreyReach, Storeys};
 
 /// How many spots a mesh has. The storeys of a tile have no limit but memory, so that the count is in 128 bits.
@@ -73,12 +73,4 @@ pub(crate) fn count_open(storey: &Storey, reach: StoreyReach, areas: u64) -> u32
     } else {
         0
     }
-}
-
-/// Whether an area is open.
-fn is_open(areas: u64, area: u32) -> bool
-    requires { area < 64 }
-    ensures { result ≡ is_open areas area }
-{
-    (areas >> area) & 1 == 1
 }

@@ -2,7 +2,7 @@ use Rattle.std.proofs.Common.{sym, subst}
 use Rattle.mesh_types.specs.FitTiles.{IsPolygon}
 use Rattle.mesh_locate.proofs.Reached.{box_there}
 use Rattle.mesh_place.proofs.ScanLaws.{low_area}
-use Rattle.mesh_place.proofs.guesses.likely_measure.Goals as goal
+use Rattle.mesh_place.proofs.guesses.likely_of.Goals as goal
 
 pub meets-requires-clause-low : goal.meets-requires-clause-low
 meets-requires-clause-low c =
