@@ -1,6 +1,6 @@
 //! The queue: the history, which tiles await a build, and who claimed them.
 
-ghost use Rattle.std.specs.Prelude.{◌≡◌, ◌<◌, ◌≤◌, None, [], false, length, replicate, IfOk, vec_capacity};
+ghost use Rattle.std.specs.Prelude.{◌≡◌, ◌<◌, ◌≤◌, None, [], false, length, replicate, IfOk, slice_index_or, vec_capacity};
 ghost use Rattle.std.specs.Arc.{arc_value};
 ghost use Rattle.nav_ground.specs.Grounds.{IsGround};
 ghost use Rattle.nav_ground.specs.History.{IsHistory, IsRequest, alive_after, history_limit, shapes_alive};
@@ -251,6 +251,14 @@ impl BuildQueue {
         ensures rules { IsBook self.now }
     {
         Ok(Arc::try_clone(&self.ground)?)
+    }
+
+    /// The shapes that a tile's stored mesh was built with.
+    pub fn stored(&self, tile: TileNo) -> &Items<Shape>
+        requires { tile < tile_count self.now.ground.setting }
+        ensures { result.now ≡ slice_index_or self.now.stored tile [] }
+    {
+        &self.stored[tile as usize]
     }
 
     /// How many entries the history has.

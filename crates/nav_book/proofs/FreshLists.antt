@@ -1,13 +1,14 @@
 -- Fresh tile meshes as a list with the numbers of their tiles: what putting one in changes, and that the places give the list again.
-use Rattle.std.proofs.Common.{◌≡◌, ◌≢◌, ℕ, zero, suc, ◌+◌, ◌<◌, ◌≤◌, List, [], ◌∷◌, ◌++◌, length, map, get_or, set, take, drop, replicate, cond, Option, Some, None, Result, Ok, Err, ap, ap₂, ◌∙◌, refl, sym, subst, ⊎_elim, arith, tests}
+use Rattle.std.proofs.Common.{◌≡◌, ◌≢◌, ℕ, zero, suc, ◌+◌, ◌<◌, ◌≤◌, List, [], ◌∷◌, ◌++◌, length, map, get_or, set, take, drop, replicate, cond, Option, Some, None, Result, Ok, Err, false, ap, ap₂, ◌∙◌, refl, sym, subst, ⊎_elim, arith, tests}
 use Rattle.std.specs.Prelude.{All, Bool, ◌==◌}
 use Rattle.std.specs.List.{find, insert, range_with_len}
 use Rattle.std.specs.List.Sorted.{IsBinarySearchResult, IsSearchInRange}
 use Rattle.std.specs.Option.{option_map}
 use Rattle.std.specs.Ordering.{nat_cmp, ordering_index}
 use Rattle.std.specs.Result.{MatchResult}
+use Rattle.core.specs.Result.{is_ok}
 use Rattle.std.specs.declared.cmp.Ordering.TheVariants.{Less, Equal, Greater}
-use Rattle.std.proofs.lemmas.Bool.{cases_eq, cases_order, cond-false, cond-true, eq-eqb, ne_eqb}
+use Rattle.std.proofs.lemmas.Bool.{cases_eq, cases_order, cond-false, cond-true, eq-eqb, ne_eqb, true≢false}
 use Rattle.std.proofs.lemmas.Cmp.{ranked}
 use Rattle.std.proofs.lemmas.List.{ext_get_or, get_or-drop, get_or-set_other, get_or-set_same, get_or-take, get_or_append_left, length-append, length-drop, length-set, length-take, set-get_or, set_split, take-append-drop}
 use Rattle.std.proofs.lemmas.List.Edits.{length-insert}
@@ -102,6 +103,25 @@ put_between tiles news tile place mesh there is =
     (found_between before after new tile (All-weaker (λ (n : New). n.0 < tile) (λ (n : New). n.0 ≢ tile) (λ n less same. omega (arith, less, same)) before is.low) refl))
     (λ k apart.
     ap mesh_in (others_found before after new k (λ same. apart (sym same))) ∙ ap (λ (xs : List New). new_tile xs k) (take-append-drop place news))
+
+-- the place of a tile that has none is empty
+none_in_gap : (tiles : ℕ) (news : List New) (tile place : ℕ) → tile < tiles → IsGapFor news tile place
+    → get_or (places_of tiles news) tile None ≡ None
+none_in_gap tiles news tile place there is =
+    let before = take place news in
+    let after = drop place news in
+    get_or-map-range_with_len (new_tile news) 0 tiles tile tile None there (omega arith)
+    ∙ ap (λ (them : List New). new_tile them tile) (sym (take-append-drop place news))
+    ∙ ap mesh_in (none_among tile (before ++ after)
+    (All-append (λ (n : New). n.0 ≢ tile) before after
+    (All-weaker (λ (n : New). n.0 < tile) (λ (n : New). n.0 ≢ tile) (λ n less same. omega (arith, less, same)) before is.low)
+    (All-weaker (λ (n : New). tile < n.0) (λ (n : New). n.0 ≢ tile) (λ n more same. omega (arith, more, same)) after is.high)))
+
+pub empty_place : (tiles : ℕ) (news : List New) (places : List (Option TileMesh)) (tile : ℕ) (found : Result ℕ ℕ) → places_of tiles news ≡ places
+    → tile < length places → MatchResult found (IsPlaceOf news tile) (IsGapFor news tile) → is_ok found ≡ false → get_or places tile None ≡ None
+empty_place tiles news places tile (Ok place) are there is off = absurd (true≢false off)
+empty_place tiles news places tile (Err place) are there is off =
+    ap (λ (them : List (Option TileMesh)). get_or them tile None) (sym are) ∙ none_in_gap tiles news tile place (tile_there tiles news places tile are there) is
 
 -- ---- the list after a mesh was put in
 

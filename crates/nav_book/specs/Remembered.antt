@@ -8,7 +8,7 @@ use Rattle.nav_book.specs.LevelResults.{tile_under}
 abbrev pub IsBuildOf : Ground → CachedBuild → Type 0
 IsBuildOf ground build = build.mesh ≡ tile_under ground build.job.tile build.job.shapes
 
--- such builds as they are kept: never more than 32
+-- such builds as they are kept: never more than 256
 pub record AreKeptBuilds (ground : Ground) (builds : List CachedBuild) : Type 0 where
   pub right : All (IsBuildOf ground) builds
-  pub few : length builds ≤ 32
+  pub few : length builds ≤ 256

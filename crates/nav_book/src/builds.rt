@@ -1,7 +1,7 @@
 //! The builds that were made last, so that a door which opens and closes is not built again each time. Fresh tile meshes, which are stored
 //! and not published yet.
 
-ghost use Rattle.std.specs.Prelude.{◌≡◌, ◌↔◌, ◌+◌, IsTrue, IfOk, IfSome, ◌<◌, ◌≤◌, length, replicate, slice_set, Some, None, vec_capacity};
+ghost use Rattle.std.specs.Prelude.{◌≡◌, ◌↔◌, ◌+◌, IsTrue, IfOk, IfSome, ◌<◌, ◌≤◌, false, get_or, length, replicate, slice_set, Some, None, vec_capacity};
 ghost use Rattle.std.specs.Arc.{arc_value};
 ghost use Rattle.nav_ground.specs.Grounds.{IsGround};
 ghost use Rattle.build_queue.specs.Steps.{IsJob};
@@ -22,9 +22,11 @@ use std::marker::Model;
 use std::sync::Arc;
 use std::sync::ledger::Ledger;
 
-/// How many builds are remembered. A door seldom touches more than four tiles, and asks for two builds of each: so this is enough for four doors
-/// that open and close in turn.
-const ROOM: usize = 32;
+/// How many builds are remembered: as many as there are tiles, but no fewer and no more than these. A door seldom touches more than four tiles,
+/// and asks for two builds of each: so there is room for the doors of a level that open and close in turn.
+const LEAST_ROOM: usize = 32;
+
+const MOST_ROOM: usize = 256;
 
 /// Only builds that are no larger than these are remembered: of so many cells of the tile's layer, so many polygons and links between them,
 /// under so many shapes. Such a build takes a quarter of a MB at most, and some ten KB where a tile has 32 columns a side.
@@ -49,7 +51,7 @@ struct CachedBuild {
 pub(crate) struct BuildCache {
     level: Arc<Ground>,
     builds: Vec<CachedBuild>,
-    /// The place of the next build: that of the oldest one, once there are `ROOM` of them.
+    /// The place of the next build: that of the oldest one, once there is no more room.
     next: usize,
 }
 
@@ -77,9 +79,8 @@ impl BuildCache {
         }
     }
 
-    /// The mesh of a job's tile under the job's shapes: that of the same job where it is remembered, else a new one, which is remembered from
-    /// then on where it is small and memory for that is left. It takes one step, also where memory is refused; then nothing is remembered any
-    /// more, so that there is more memory for the next one.
+    /// The mesh of a job's tile under the job's shapes, built anew. It is remembered from then on where it is small and memory for that is left.
+    /// It takes one step, also where memory is refused; then nothing is remembered any more, so that there is more memory for the next one.
     pub(crate) fn build<L: Ledger>(
         &mut self,
         alloc: Global,
@@ -92,10 +93,6 @@ impl BuildCache {
         ensures mesh { IfOk result (λ mesh. mesh ≡ tile_under self.old job.now.tile job.now.shapes) }
         ensures step { steps.new ≡ steps.old + 1 }
     {
-        if let Some(mesh) = self.remembered(job) {
-            steps.tick();
-            return Ok(mesh);
-        }
         match build_job(alloc, &self.level, job, steps) {
             Ok(mesh) => {
                 let _ = self.remember(alloc, job, &mesh);
@@ -109,7 +106,7 @@ impl BuildCache {
     }
 
     /// A further owner of the mesh that was built for the same job; none where there is none at hand.
-    fn remembered(&self, job: &Job) -> Option<Shared<TileMesh>>
+    pub(crate) fn remembered(&self, job: &Job) -> Option<Shared<TileMesh>>
         ensures { IfSome result (λ mesh. mesh ≡ tile_under self.now job.now.tile job.now.shapes) }
     {
         for build in self.builds.as_slice() {
@@ -135,7 +132,7 @@ impl BuildCache {
 
     /// Remembers the build of a job if it is small, in the place of the oldest one where there is no more room. Where memory is refused, nothing
     /// has changed.
-    fn remember(
+    pub(crate) fn remember(
         &mut self,
         alloc: Global,
         job: &Job,
@@ -154,7 +151,7 @@ impl BuildCache {
             },
             mesh: mesh.share()?,
         };
-        let place = self.next % ROOM;
+        let place = self.next % self.room();
         if place < self.builds.len() {
             self.builds[place] = build;
         } else {
@@ -162,6 +159,18 @@ impl BuildCache {
         }
         self.next = place + 1;
         Ok(())
+    }
+
+    /// How many builds there is room for.
+    fn room(&self) -> usize
+        ensures least { 1 ≤ result }
+        ensures most { result ≤ 256 }
+    {
+        self.level
+            .layers
+            .as_slice()
+            .len()
+            .clamp(LEAST_ROOM, MOST_ROOM)
     }
 }
 
@@ -218,6 +227,14 @@ impl NewMeshes {
         ensures { result.now ≡ news_of self.now }
     {
         self.news.as_slice()
+    }
+
+    /// Whether the place of a tile has a mesh.
+    pub(crate) fn has(&self, tile: TileNo) -> bool
+        requires { tile < length self.now }
+        ensures { result ≡ false → get_or self.now tile None ≡ None }
+    {
+        place_for(self.news.as_slice(), tile).is_ok()
     }
 
     /// Makes every place empty.

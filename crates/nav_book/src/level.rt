@@ -24,8 +24,8 @@ use crate::shown::PublishedMesh;
 use build_queue::{BuildQueue, HistoryFull, Job, Published, Submitted};
 use mesh_types::{Answer, Asked, Mesh, TileMesh};
 use nav_base::{Question, Steps};
-use nav_ground::{Entry, Ground, Reply, Request};
-use nav_lists::{Items, Shared};
+use nav_ground::{Entry, Ground, Reply, Request, TileNo};
+use nav_lists::{Duplicate, Items, Shared};
 use nav_query::PreparedMesh;
 use std::alloc::{AllocError, Global};
 use std::marker::Model;
@@ -138,7 +138,33 @@ impl Level {
         ensures mesh { IfOk result (λ mesh. mesh ≡ tile_under self.old.ground job.now.tile job.now.shapes) }
         ensures step { steps.new ≡ steps.old + 1 }
     {
+        if let Some(mesh) = self.builds.remembered(job) {
+            steps.tick();
+            return Ok(mesh);
+        }
+        let _ = self.remember_stored(alloc, job.tile);
         self.builds.build(alloc, job, steps)
+    }
+
+    /// Remembers the published mesh of a tile that has no fresh one, since what comes may go again: then the tile is as it was.
+    fn remember_stored(&mut self, alloc: Global, tile: TileNo) -> Result<(), AllocError>
+        requires { tile < tile_count self.old.ground.setting }
+        ensures { self.new ≡ self.old }
+    {
+        if self.fresh.has(tile) {
+            return Ok(());
+        }
+        let job = Job {
+            tile,
+            shapes: self.queue.stored(tile).duplicate(alloc)?,
+        };
+        if self.builds.remembered(&job).is_some() {
+            return Ok(());
+        }
+        match self.mesh.get().tiles.get(tile as usize) {
+            Some(mesh) => self.builds.remember(alloc, &job, mesh),
+            None => Ok(()),
+        }
     }
 
     /// Takes the build of a job in: its tile is claimed no more. It is stale exactly where the tile is not awaited, or was not built under

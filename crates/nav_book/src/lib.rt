@@ -14,7 +14,7 @@
 //! comes in two halves besides: `next_mesh` makes what is published next, and takes all the memory; `show` takes it over, and cannot be refused. Who shows the mesh to
 //! others as well does so in between. `shown` keeps what is published; `settle` builds and publishes by single steps.
 //!
-//! `builds`: small builds that `step` and `settle` made last are remembered, 32 of them, for an obstacle that comes, goes and comes again,
+//! `builds`: small builds that `step` and `settle` made last, and those that they replaced, are remembered, for an obstacle that comes and goes,
 //! as a door does. That is promised by nothing, and seen in nothing but time and memory; such a build takes one step like any other.
 //!
 //! `book`: `begin` gives an `Eye` of `nav_version`, a reader, for each thread that is to ask. Eyes read what was published without the
