@@ -2,8 +2,8 @@
  *
  *     arrays TEXT KIND
  *
- * TEXT is a triangle text. KIND is `text` or `arrays`; the arrays have three vertices of their own for each triangle, in cells. A line is written: the kind,
- * and the nanoseconds of processor time of the opening. */
+ * TEXT is a triangle text. KIND is `text`, `arrays` or `soup`: triangles of arrays share their vertices, as those of a game's mesh do, and those of a soup
+ * have three of their own. Vertices are in cells. A line is written: the kind, and the nanoseconds of processor time of the opening. */
 #define _POSIX_C_SOURCE 200809L
 
 
@@ -11,28 +11,36 @@
 #include "opened.h"
 #include "../hosts/c/common.h"
 
-static uint32_t number_of(const char *text, const char *name, int place) {
-    const char *line = strstr(text, name);
-    uint32_t number = 0;
-    want(line != NULL, name);
-    line += strlen(name);
-    for (int i = 0; i <= place; i++) number = (uint32_t)strtoul(line, (char **)&line, 10);
-    return number;
+static float *vertices;
+static uint32_t *slots, slot_count, vertex_count;
+
+/* The number of a vertex: of an equal one where there is one and they are shared, else the next. Slots hold numbers from 1; their count is a power of two. */
+static uint32_t vertex_of(const float at[3], int shared) {
+    uint32_t bits[3], slot;
+    memcpy(bits, at, sizeof bits);
+    for (slot = (bits[0] * 73856093u ^ bits[1] * 19349663u ^ bits[2] * 83492791u) * 2654435761u & (slot_count - 1); shared && slots[slot]; slot = (slot + 1) & (slot_count - 1))
+        if (!memcmp(vertices + 3 * (slots[slot] - 1), at, sizeof bits)) return slots[slot] - 1;
+    memcpy(vertices + 3 * vertex_count, at, sizeof bits);
+    if (shared) slots[slot] = vertex_count + 1;
+    return vertex_count++;
 }
 
 int main(int count, char **words) {
-    want(count == 3, "usage: arrays TEXT text | arrays");
+    want(count == 3, "usage: arrays TEXT text | arrays | soup");
     size_t length, corners = 0;
     char *text = text_of(words[1], &length);
-    float *vertices = malloc(3 * length * sizeof *vertices);
+    for (slot_count = 1; slot_count < length; slot_count *= 2) continue;
+    vertices = malloc(3 * length * sizeof *vertices);
+    slots = calloc(slot_count, sizeof *slots);
     uint32_t *indices = malloc(length * sizeof *indices);
     uint8_t *areas = malloc(length);
-    want(vertices && indices && areas, "no memory");
+    want(vertices && slots && indices && areas, "no memory");
     for (const char *line = strstr(text, "\ntri "); line; line = strstr(line + 1, "\ntri ")) {
         const char *at = line + 5;
         for (int i = 0; i < 3; i++, corners++) {
-            indices[corners] = (uint32_t)corners;
-            for (int j = 0; j < 3; j++) vertices[3 * corners + (size_t)j] = (float)strtol(at, (char **)&at, 10) / (j == 1 ? 1.0f : 16.0f);
+            float corner[3];
+            for (int j = 0; j < 3; j++) corner[j] = (float)strtol(at, (char **)&at, 10) / (j == 1 ? 1.0f : 16.0f);
+            indices[corners] = vertex_of(corner, words[2][0] == 'a');
         }
         areas[corners / 3 - 1] = (uint8_t)strtol(at, NULL, 10);
     }
@@ -44,7 +52,7 @@ int main(int count, char **words) {
     navd_mesh_fault mesh_fault;
     double begun = seconds();
     uint32_t status = words[2][0] == 't' ? navd_open_triangles(&level, (const uint8_t *)text, length, &fault)
-                                         : navd_open_mesh(&level, &mesh, vertices, 3 * corners, indices, corners, areas, corners / 3, &mesh_fault);
+                                         : navd_open_mesh(&level, &mesh, vertices, 3 * (size_t)vertex_count, indices, corners, areas, corners / 3, &mesh_fault);
     double took = seconds() - begun;
     want(status == NAVD_OK, "no level");
     printf("%s %.0f\n", words[2], took * 1e9);

@@ -31,6 +31,16 @@ static char *text_of(const char *path, size_t *length) {
     return text;
 }
 
+/* The number at a place, from 0, of the first line of a text that begins so. */
+static inline uint32_t number_of(const char *text, const char *name, int place) {
+    const char *line = strstr(text, name);
+    uint32_t number = 0;
+    want(line != NULL, name);
+    line += strlen(name);
+    for (int i = 0; i <= place; i++) number = (uint32_t)strtoul(line, (char **)&line, 10);
+    return number;
+}
+
 /* Opens the level of a field text. */
 static inline void open_level(const char *path) {
     size_t length;

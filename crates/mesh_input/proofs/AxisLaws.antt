@@ -1,17 +1,19 @@
--- Fine steps are 256 to a step, so what is few steps from 0 is few fine steps from 0, and what is near by steps is near by fine ones.
-use Rattle.std.proofs.Common.{◌≡◌, ℕ, ◌+◌, ◌*◌, ◌^◌, ◌<◌, ◌≤◌, Bool, true, false, sym, ap, ◌∙◌, subst, arith, pow_pos, pow-add, mul_assoc, mul-le-mul_right, w64, to_z, of_z, ℤ, pos, ◌+ℤ◌, ◌*ℤ◌, ◌-ℤ◌, Option, Some, None, IfSome, IsNone}
-use native.Mathlib.Nat.{mul_comm, mul_left_comm, add-mul, eq_of_mul-eq-mul_right}
+-- Fine steps are 256 to a step: a number tells the fine number to half a step, and the fine number tells the number, but half way between two.
+use Rattle.std.proofs.Common.{◌≡◌, ℕ, ◌+◌, ◌*◌, ◌/◌, ◌%◌, ◌^◌, ◌<◌, ◌≤◌, Bool, true, false, sym, ap, ◌∙◌, subst, inl, inr, arith, pow_pos, pow-add, mul_assoc, mul-le-mul_right, ℤ, pos, ◌+ℤ◌, ◌*ℤ◌, ◌-ℤ◌, ◌≤ℤ◌, w64, to_z, of_z, Option, Some, None, IfSome, IsNone}
+use native.Mathlib.Nat.{mul_comm, add_comm, mul_left_comm, add-mul, one-mul, eq_of_mul-eq-mul_right}
+use Rattle.std.proofs.Math.Nat.{mod-add-div, mod-lt}
+use Rattle.std.proofs.lemmas.Bool.{cases_lt}
 use Rattle.std.specs.Float.{Float}
 use Rattle.std.specs.Int.RustNames.{unsigned_abs}
 use Rattle.std.proofs.lemmas.Int.{ints}
 use Rattle.world_grid.specs.Grid.{IsNearest, IsSteps, IsStepOf, length_of, signed}
 use Rattle.world_grid.specs.declared.grid_step.GridStep.{GridStep}
 use Rattle.world_grid.proofs.ValueLaws.{one_value}
-use Rattle.world_grid.proofs.NearestLaws.{nears}
-use Rattle.world_grid.proofs.StepLaws.{length_pos}
+use Rattle.world_grid.proofs.NearestLaws.{Nears, nears, is_nearest}
+use Rattle.world_grid.proofs.StepLaws.{length_pos, one_steps}
 use Rattle.world_grid.proofs.Readings.{reads}
 use Rattle.mesh_input.specs.declared.grid.MeshAxis.{MeshAxis}
-use Rattle.mesh_input.specs.Axes.{LiesOnAxis, IsFineChange}
+use Rattle.mesh_input.specs.Axes.{IsOnAxis, LiesOnAxis, IsFineAt, IsFineChange}
 
 -- the step of a size has 256 of the steps that are 2^8 times finer
 pub finer_length : (size : Float) (k : ℕ) (a b : GridStep) → IsStepOf size k a → IsStepOf size (k + 8) b → length_of a ≡ 256 * length_of b
@@ -70,55 +72,207 @@ fine_of x step fine n m finer p q =
     (fine_most p.size (length_of fine) (unsigned_abs n) (unsigned_abs m) (length_pos fine) coarse small)
     (fine_least p.size (length_of fine) (unsigned_abs n) (unsigned_abs m) (length_pos fine) coarse small)
 
--- a number of an axis is few fine steps from 0
-few : (n m : ℤ) → unsigned_abs (m -ℤ pos 256 *ℤ n) ≤ 128 → unsigned_abs n < 2 ^ 23 → unsigned_abs m < 2 ^ 31
-few n m near small = omega (arith, ints)
+-- and back: fine steps that are less than half a step away tell the number of steps
+coarse_near : (a d m n : ℕ) → 0 < d → 256 * n ≤ m + 127 → m ≤ 256 * n + 127 → IsNearest a d m → IsNearest a (256 * d) n
+coarse_near a d m n some low high h =
+    let near = nears a d m h in
+    let below = near.below in
+    let above = near.above in
+    let less : 256 * n * d ≤ (m + 127) * d = mul-le-mul_right d low in
+    let more : m * d ≤ (256 * n + 127) * d = mul-le-mul_right d high in
+    let one : 256 * n * d ≡ 256 * (n * d) = mul_assoc 256 n d in
+    let two : (m + 127) * d ≡ m * d + 127 * d = add-mul m 127 d in
+    let three : (256 * n + 127) * d ≡ 256 * (n * d) + 127 * d = add-mul (256 * n) 127 d ∙ ap (λ (z : ℕ). z + 127 * d) (mul_assoc 256 n d) in
+    let least : 256 * (n * d) ≤ m * d + 127 * d = omega (arith, less, one, two) in
+    let most : m * d ≤ 256 * (n * d) + 127 * d = omega (arith, more, three) in
+    is_nearest a (256 * d) n (subst (λ (z : ℕ). Nears a (256 * d) z n) (sym (mul_left_comm n 256 d)) (clear a d (m * d) (n * d) n some below above least most))
+  where
+    clear : (a d x y n : ℕ) → 0 < d → 2 * a ≤ 2 * x + d → 2 * x ≤ 2 * a + d → 256 * y ≤ x + 127 * d → x ≤ 256 * y + 127 * d → Nears a (256 * d) (256 * y) n
+    clear a d x y n some below above least most = record {
+      below = omega arith;
+      above = omega arith;
+      even = λ tie. absurd (elim tie [ inl p ↦ omega (arith, p) | inr p ↦ omega (arith, p) ]);
+    }
 
-pub fine_few : (x : Float) (axis : MeshAxis) (m : ℤ) → LiesOnAxis x axis → IsSteps x axis.fine m → unsigned_abs m < 2 ^ 31
-fine_few x axis m on h = few (axis.begin +ℤ pos on.at) m (fine_of x axis.step axis.fine _ m axis.finer on.is.steps h) on.is.near
+coarse_least : (f k : ℤ) → unsigned_abs (f -ℤ pos 256 *ℤ k) ≤ 127 → 256 * unsigned_abs k ≤ unsigned_abs f + 127
+coarse_least f k near = omega (arith, ints)
 
--- two are few fine steps apart
-near_by : (begin a b change : ℤ) (m n last : ℕ) → m ≤ last → n ≤ last → last ≤ 16384 → unsigned_abs (a -ℤ pos 256 *ℤ (begin +ℤ pos m)) ≤ 128
-    → unsigned_abs (a +ℤ change -ℤ pos 256 *ℤ (begin +ℤ pos n)) ≤ 128 → unsigned_abs change ≤ 5000000
-near_by begin a b change m n last p q most h k = omega (arith, ints)
+coarse_most : (f k : ℤ) → unsigned_abs (f -ℤ pos 256 *ℤ k) ≤ 127 → unsigned_abs f ≤ 256 * unsigned_abs k + 127
+coarse_most f k near = omega (arith, ints)
 
-pub change_small : (from to : Float) (axis : MeshAxis) (change : ℤ) → LiesOnAxis from axis → LiesOnAxis to axis → IsFineChange from to axis change → unsigned_abs change ≤ 5000000
-change_small from to axis change p q h =
-    near_by axis.begin h.begins h.begins change p.at q.at axis.last p.is.inside q.is.inside axis.few
-    (fine_of from axis.step axis.fine _ h.begins axis.finer p.is.steps h.from_is)
-    (fine_of to axis.step axis.fine _ (h.begins +ℤ change) axis.finer q.is.steps h.to_is)
+coarse_sign : (s : Bool) (f k : ℤ) → f ≡ signed s (unsigned_abs f) → unsigned_abs (f -ℤ pos 256 *ℤ k) ≤ 127 → k ≡ signed s (unsigned_abs k)
+coarse_sign false f k e near = omega (arith, ints)
+coarse_sign true f k e near = omega (arith, ints)
 
--- what was found of two floats: the difference of their fine steps
-module _ (from to : Float) (axis : MeshAxis) (a b : ℤ) (near : unsigned_abs a < 2 ^ 31) (close : unsigned_abs b < 2 ^ 31) where
-  pub change_found : (r : Option ℤ) → IsSteps from axis.fine a → IsSteps to axis.fine b
-      → IfSome r (λ (n : ℤ). (to_z w64 (of_z w64 b) ≡ to_z w64 (of_z w64 a) +ℤ n) × (unsigned_abs n ≤ 5000000)) → IfSome r (IsFineChange from to axis)
-  change_found None p q f = tt
-  change_found (Some n) p q f = record {
-    begins = a;
-    from_is = p;
-    to_is = subst (λ (z : ℤ). IsSteps to axis.fine z) (sym (reads b close) ∙ f.0 ∙ ap (λ (z : ℤ). z +ℤ n) (reads a near)) q;
+steps_coarse : (x : Float) (step fine : GridStep) (f k : ℤ) → length_of step ≡ 256 * length_of fine → unsigned_abs (f -ℤ pos 256 *ℤ k) ≤ 127 → IsSteps x fine f → IsSteps x step k
+steps_coarse x step fine f k finer near h = record {
+  negative = h.negative;
+  size = h.size;
+  value = h.value;
+  nearest = subst (λ (l : ℕ). IsNearest h.size l (unsigned_abs k)) (sym finer)
+      (coarse_near h.size (length_of fine) (unsigned_abs f) (unsigned_abs k) (length_pos fine) (coarse_least f k near) (coarse_most f k near) h.nearest);
+  sign = coarse_sign h.negative f k h.sign near;
+}
+
+-- a fine number that is not half way between two numbers of an axis tells the number
+within : (begin : ℤ) (fine : ℕ) → ¬ (fine % 256 ≡ 0) → unsigned_abs (pos 256 *ℤ begin +ℤ pos fine -ℤ pos 128 -ℤ pos 256 *ℤ (begin +ℤ pos (fine / 256))) ≤ 127
+within begin fine some = omega (arith, ints)
+
+number_near : (begin : ℤ) (fine : ℕ) → unsigned_abs begin < 2 ^ 23 → (pos 256 *ℤ begin +ℤ pos fine) ≤ℤ pos (2 ^ 31) → ¬ (fine % 256 ≡ 0) → unsigned_abs (begin +ℤ pos (fine / 256)) < 2 ^ 23
+number_near begin fine near most some = omega (arith, ints)
+
+number_inside : (fine last : ℕ) → fine ≤ 256 * last + 256 → ¬ (fine % 256 ≡ 0) → fine / 256 ≤ last
+number_inside fine last most some = omega arith
+
+pub number_found : (x : Float) (axis : MeshAxis) (fine : ℕ) → IsFineAt x axis fine → fine ≤ 256 * axis.last + 256 → (pos 256 *ℤ axis.begin +ℤ pos fine) ≤ℤ pos (2 ^ 31) → ¬ (fine % 256 ≡ 0)
+    → IsOnAxis x axis (fine / 256)
+number_found x axis fine at inside near some = record {
+  steps = steps_coarse x axis.step axis.fine _ (axis.begin +ℤ pos (fine / 256)) axis.finer (within axis.begin fine some) at.steps;
+  near = number_near axis.begin fine axis.near near some;
+  inside = number_inside fine axis.last inside some;
+}
+
+-- there is a whole number nearest to a fraction, so a float has fine steps
+record HasNearest (a d : ℕ) : Type 0 where
+  n : ℕ
+  is : IsNearest a d n
+
+down : (a d q x r : ℕ) → 0 < d → a ≡ x + r → 2 * r ≤ d → (2 * r ≡ d → q % 2 ≡ 0) → Nears a d x q
+down a d q x r some e few even = record {
+  below = omega (arith, e, few);
+  above = omega (arith, e);
+  even = λ tie. elim tie [ inl p ↦ even (omega (arith, p, e)) | inr p ↦ absurd (omega (arith, p, e, some)) ];
+}
+
+up : (a d q x r : ℕ) → 0 < d → a ≡ x + r → r < d → d ≤ 2 * r → (2 * r ≡ d → (q + 1) % 2 ≡ 0) → Nears a d (x + d) (q + 1)
+up a d q x r some e less many even = record {
+  below = omega (arith, e, less);
+  above = omega (arith, e, many);
+  even = λ tie. elim tie [ inl p ↦ absurd (omega (arith, p, e, less)) | inr p ↦ even (omega (arith, p, e)) ];
+}
+
+nearest_there : (a d : ℕ) → 0 < d → HasNearest a d
+nearest_there a d some =
+    elim (cases_lt (2 * r) d) [
+      | inl less ↦ at_down (omega (arith, less)) (λ e. absurd (omega (arith, e, less)))
+      | inr more ↦ elim (cases_lt (q % 2) 1) [
+        | inl even ↦ elim (cases_lt d (2 * r)) [
+          | inl far ↦ at_up (omega (arith, far)) (λ e. absurd (omega (arith, e, far)))
+          | inr tie ↦ at_down tie (λ e. omega (arith, even))
+        ]
+        | inr odd ↦ at_up more (λ e. omega (arith, odd))
+      ]
+    ]
+  where
+    q : ℕ
+    q = a / d
+
+    r : ℕ
+    r = a % d
+
+    whole : a ≡ q * d + r
+    whole = sym (mod-add-div a d) ∙ add_comm r (d * q) ∙ ap (λ (z : ℕ). z + r) (mul_comm d q)
+
+    at_down : 2 * r ≤ d → (2 * r ≡ d → q % 2 ≡ 0) → HasNearest a d
+    at_down few even = record { n = q; is = is_nearest a d q (down a d q (q * d) r some whole few even) }
+
+    at_up : d ≤ 2 * r → (2 * r ≡ d → (q + 1) % 2 ≡ 0) → HasNearest a d
+    at_up many even = record {
+      n = q + 1;
+      is = is_nearest a d (q + 1) (subst (λ (z : ℕ). Nears a d z (q + 1)) (sym (add-mul q 1 d ∙ ap (λ (z : ℕ). q * d + z) (one-mul d))) (up a d q (q * d) r some whole (mod-lt a some) many even));
+    }
+
+size_of_signed : (s : Bool) (n : ℕ) → unsigned_abs (signed s n) ≡ n
+size_of_signed false n = omega (arith, ints)
+size_of_signed true n = omega (arith, ints)
+
+record HasFine (x : Float) (axis : MeshAxis) : Type 0 where
+  steps : ℤ
+  is : IsSteps x axis.fine steps
+
+fine_there : (x : Float) (axis : MeshAxis) (n : ℤ) → IsSteps x axis.step n → HasFine x axis
+fine_there x axis n h =
+    let near = nearest_there h.size (length_of axis.fine) (length_pos axis.fine) in
+    let same = sym (size_of_signed h.negative near.n) in
+    record {
+      steps = signed h.negative near.n;
+      is = record {
+        negative = h.negative;
+        size = h.size;
+        value = h.value;
+        nearest = subst (λ (k : ℕ). IsNearest h.size (length_of axis.fine) k) same near.is;
+        sign = ap (λ (k : ℕ). signed h.negative k) same;
+      };
+    }
+
+-- what has too many fine steps, or too few behind the beginning, lies outside
+too_far : (n m : ℤ) → unsigned_abs (m -ℤ pos 256 *ℤ n) ≤ 128 → unsigned_abs n < 2 ^ 23 → 2147483521 ≤ unsigned_abs m → ⊥
+too_far n m near small far = omega (arith, ints)
+
+pub fine_far : (x : Float) (axis : MeshAxis) → ((m : ℤ) → IsSteps x axis.fine m → 2147483521 ≤ unsigned_abs m) → ¬ LiesOnAxis x axis
+fine_far x axis far on =
+    let there = fine_there x axis (axis.begin +ℤ pos on.at) on.is.steps in
+    too_far (axis.begin +ℤ pos on.at) there.steps (fine_of x axis.step axis.fine _ there.steps axis.finer on.is.steps there.is) on.is.near (far there.steps there.is)
+
+behind_few : (begin steps : ℤ) (n last : ℕ) → unsigned_abs (steps -ℤ pos 256 *ℤ (begin +ℤ pos n)) ≤ 128 → n ≤ last → unsigned_abs (steps +ℤ pos 128 -ℤ pos 256 *ℤ begin) ≤ 256 * last + 256
+behind_few begin steps n last near inside = omega (arith, ints)
+
+behind_is : (begin steps : ℤ) (n : ℕ) → unsigned_abs (steps -ℤ pos 256 *ℤ (begin +ℤ pos n)) ≤ 128 → steps +ℤ pos 128 ≡ pos 256 *ℤ begin +ℤ pos (unsigned_abs (steps +ℤ pos 128 -ℤ pos 256 *ℤ begin))
+behind_is begin steps n near = omega (arith, ints)
+
+fine_outside : (x : Float) (axis : MeshAxis) (steps : ℤ) → IsSteps x axis.fine steps
+    → ((fine : ℕ) → fine ≤ 256 * axis.last + 256 → ¬ (steps +ℤ pos 128 ≡ pos 256 *ℤ axis.begin +ℤ pos fine)) → ¬ LiesOnAxis x axis
+fine_outside x axis steps is none on =
+    let near = fine_of x axis.step axis.fine (axis.begin +ℤ pos on.at) steps axis.finer on.is.steps is in
+    none _ (behind_few axis.begin steps on.at axis.last near on.is.inside) (behind_is axis.begin steps on.at near)
+
+fine_same : (begin steps : ℤ) (fine : ℕ) → steps +ℤ pos 128 ≡ pos 256 *ℤ begin +ℤ pos fine → steps ≡ pos 256 *ℤ begin +ℤ pos fine -ℤ pos 128
+fine_same begin steps fine e = omega (arith, ints)
+
+-- the same of what the code reads
+module _ (x : Float) (axis : MeshAxis) (steps : ℤ) (few : unsigned_abs steps < 2147483521) where
+  steps_reads : to_z w64 (of_z w64 steps) ≡ steps
+  steps_reads = reads steps (omega (arith, few))
+
+  begin_reads : to_z w64 (of_z w64 axis.begin) ≡ axis.begin
+  begin_reads = reads axis.begin (omega (arith, axis.near))
+
+  pub fine_found : (r : Option ℕ) → IsSteps x axis.fine steps
+      → IfSome r (λ (fine : ℕ). to_z w64 (of_z w64 steps) +ℤ pos 128 ≡ pos 256 *ℤ to_z w64 (of_z w64 axis.begin) +ℤ pos fine) → IfSome r (IsFineAt x axis)
+  fine_found None is e = tt
+  fine_found (Some fine) is e = record {
+    steps = subst (λ (z : ℤ). IsSteps x axis.fine z)
+        (fine_same axis.begin steps fine (ap (λ (z : ℤ). z +ℤ pos 128) (sym steps_reads) ∙ e ∙ ap (λ (z : ℤ). pos 256 *ℤ z +ℤ pos fine) begin_reads)) is;
   }
 
-  only_at : (n m begins : ℤ) → b ≡ a +ℤ n → begins ≡ a → begins +ℤ m ≡ b → m ≡ n
-  only_at n m begins e f g = omega (arith, ints)
+  pub fine_none : (r : Option ℕ) → IsSteps x axis.fine steps
+      → (IsNone r → (fine : ℕ) → fine ≤ 256 * axis.last + 256 → ¬ (to_z w64 (of_z w64 steps) +ℤ pos 128 ≡ pos 256 *ℤ to_z w64 (of_z w64 axis.begin) +ℤ pos fine))
+      → IsNone r → ¬ LiesOnAxis x axis
+  fine_none r is none e =
+      fine_outside x axis steps is
+      (λ fine inside same. none e fine inside (ap (λ (z : ℤ). z +ℤ pos 128) steps_reads ∙ same ∙ ap (λ (z : ℤ). pos 256 *ℤ z +ℤ pos fine) (sym begin_reads)))
 
-  pub change_only : (r : Option ℤ) → ((m : ℤ) → IsSteps from axis.fine m → m ≡ a) → ((m : ℤ) → IsSteps to axis.fine m → m ≡ b)
-      → IfSome r (λ (n : ℤ). (to_z w64 (of_z w64 b) ≡ to_z w64 (of_z w64 a) +ℤ n) × (unsigned_abs n ≤ 5000000))
-      → IfSome r (λ (n : ℤ). (m : ℤ) → IsFineChange from to axis m → m ≡ n)
-  change_only None one two f = tt
-  change_only (Some n) one two f = λ m h.
-      only_at n m h.begins (sym (reads b close) ∙ f.0 ∙ ap (λ (z : ℤ). z +ℤ n) (reads a near)) (one _ h.from_is) (two _ h.to_is)
+-- how far two places of an axis are apart on the fine grid
+same_steps : (x : Float) (step : GridStep) (m n : ℤ) → IsSteps x step m → IsSteps x step n → m ≡ n
+same_steps x step m n p q = one_steps x step q.negative q.size (unsigned_abs n) m q.value q.nearest p ∙ sym q.sign
 
-  pub change_few : (r : Option ℤ) → IfSome r (λ (n : ℤ). (to_z w64 (of_z w64 b) ≡ to_z w64 (of_z w64 a) +ℤ n) × (unsigned_abs n ≤ 5000000))
-      → IfSome r (λ (n : ℤ). unsigned_abs n ≤ 5000000)
-  change_few None f = tt
-  change_few (Some n) f = f.1
+moved_by : (begin : ℤ) (m n : ℕ) (change : ℤ) → pos n ≡ pos m +ℤ change → pos 256 *ℤ begin +ℤ pos n -ℤ pos 128 ≡ pos 256 *ℤ begin +ℤ pos m -ℤ pos 128 +ℤ change
+moved_by begin m n change e = omega (arith, ints)
 
-  pub change_none : (r : Option ℤ) → ((m : ℤ) → IsSteps from axis.fine m → m ≡ a) → ((m : ℤ) → IsSteps to axis.fine m → m ≡ b) → LiesOnAxis from axis → LiesOnAxis to axis
-      → (IsNone r → (n : ℤ) → unsigned_abs n ≤ 5000000 → ¬ (to_z w64 (of_z w64 b) ≡ to_z w64 (of_z w64 a) +ℤ n)) → IsNone r → (change : ℤ) → ¬ IsFineChange from to axis change
-  change_none r one two p q none is change h =
-      none is change (change_small from to axis change p q h)
-      (reads b close ∙ sym (two _ h.to_is) ∙ ap (λ (z : ℤ). z +ℤ change) (one _ h.from_is ∙ sym (reads a near)))
+one_change : (begin : ℤ) (m n : ℕ) (change other begins : ℤ) → pos n ≡ pos m +ℤ change → begins ≡ pos 256 *ℤ begin +ℤ pos m -ℤ pos 128 → begins +ℤ other ≡ pos 256 *ℤ begin +ℤ pos n -ℤ pos 128 → other ≡ change
+one_change begin m n change other begins e f g = omega (arith, ints)
+
+module _ (from to : Float) (axis : MeshAxis) (m n : ℕ) (change : ℤ) (starts : IsFineAt from axis m) (ends : IsFineAt to axis n) (e : pos n ≡ pos m +ℤ change) where
+  pub change_is : IsFineChange from to axis change
+  change_is = record {
+    begins = pos 256 *ℤ axis.begin +ℤ pos m -ℤ pos 128;
+    from_is = starts.steps;
+    to_is = subst (λ (z : ℤ). IsSteps to axis.fine z) (moved_by axis.begin m n change e) ends.steps;
+  }
+
+  pub change_only : (other : ℤ) → IsFineChange from to axis other → other ≡ change
+  change_only other h =
+      one_change axis.begin m n change other h.begins e (same_steps from axis.fine _ _ h.from_is starts.steps) (same_steps to axis.fine _ _ h.to_is ends.steps)
 
 -- few sixteenths are few cells
 pub few_cells : (n : ℤ) → unsigned_abs (pos 16 *ℤ n) < 2 ^ 23 → unsigned_abs n < 2 ^ 23

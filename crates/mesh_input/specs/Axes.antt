@@ -1,11 +1,12 @@
 -- The axes of a level's field, and the numbers of the game on them.
-use Rattle.std.specs.Prelude.{◌≡◌, ℕ, ◌+◌, ◌^◌, ◌≤◌, ◌<◌, ℤ, pos, ◌+ℤ◌, ◌*ℤ◌}
+use Rattle.std.specs.Prelude.{◌≡◌, ℕ, ◌+◌, ◌^◌, ◌≤◌, ◌<◌, ℤ, pos, ◌+ℤ◌, ◌-ℤ◌, ◌*ℤ◌}
 use Rattle.std.specs.Float.{Float}
 use Rattle.std.specs.Int.RustNames.{unsigned_abs}
 use Rattle.world_grid.specs.declared.frame.Frame.{Frame}
 use Rattle.world_grid.specs.Grid.{IsSteps, IsStepOf}
 use Rattle.mesh_input.specs.declared.grid.MeshAxis.{MeshAxis}
 use Rattle.mesh_input.specs.declared.grid.MeshGrid.{MeshGrid}
+use Rattle.mesh_input.specs.declared.grid.AxisPlace.{AxisPlace}
 
 -- an axis in steps of which 2^finer are a size: it begins so many steps from 0 of the game's numbers and has so many numbers
 pub record IsAxisOf (size : Float) (finer : ℕ) (begin : ℤ) (last : ℕ) (axis : MeshAxis) : Type 0 where
@@ -37,3 +38,12 @@ pub record IsFineChange (from to : Float) (axis : MeshAxis) (change : ℤ) : Typ
   pub begins : ℤ
   pub from_is : IsSteps from axis.fine begins
   pub to_is : IsSteps to axis.fine (begins +ℤ change)
+
+-- a float lies so many fine steps behind the place half a step before the beginning of an axis
+pub record IsFineAt (x : Float) (axis : MeshAxis) (fine : ℕ) : Type 0 where
+  pub steps : IsSteps x axis.fine (pos 256 *ℤ axis.begin +ℤ pos fine -ℤ pos 128)
+
+-- a float lies at a place of an axis, by its number and on the fine grid
+pub record IsPlaceOn (x : Float) (axis : MeshAxis) (place : AxisPlace) : Type 0 where
+  pub number : IsOnAxis x axis place.number
+  pub fine : IsFineAt x axis place.fine

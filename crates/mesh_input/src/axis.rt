@@ -1,11 +1,11 @@
-//! The axes of a level's field: which whole number a number of the game is there, and how far two of them are apart on a finer grid.
-ghost use Rattle.std.specs.Prelude.{◌≡◌, ℕ, ◌*◌, ◌^◌, ◌≤◌, ◌<◌, IfSome, IsNone, ℤ, pos, ◌+ℤ◌, ◌-ℤ◌, ◌*ℤ◌};
+//! The axes of a level's field: which whole number a number of the game is there, and on a grid that is 256 times finer.
+ghost use Rattle.std.specs.Prelude.{◌≡◌, ℕ, ◌+◌, ◌*◌, ◌^◌, ◌≤◌, ◌<◌, IfSome, IsNone, pos, ◌+ℤ◌, ◌-ℤ◌, ◌*ℤ◌, ◌≤ℤ◌};
 ghost use Rattle.std.specs.Int.RustNames.{unsigned_abs};
-ghost use Rattle.mesh_input.specs.Axes.{IsGridOf, IsAxisOf, IsOnAxis, LiesOnAxis, IsFineChange};
+ghost use Rattle.mesh_input.specs.Axes.{IsGridOf, IsAxisOf, IsOnAxis, LiesOnAxis, IsFineAt, IsPlaceOn};
 ghost use Rattle.mesh_input.specs.declared.grid.MeshAxis.{MeshAxis};
 ghost use Rattle.mesh_input.specs.declared.grid.MeshGrid.{MeshGrid};
 
-use crate::grid::{MeshAxis, MeshGrid};
+use crate::grid::{AxisPlace, MeshAxis, MeshGrid};
 use world_grid::{Frame, STEP_LIMIT, quantize, step_of};
 
 /// The last sixteenth along x and z of the largest field.
@@ -61,7 +61,7 @@ fn axis(size: f32, finer: u32, begin: i64, last: u32) -> Option<MeshAxis>
 }
 
 /// Which number of an axis a float is; none where it is no number, infinite, or lies outside the field.
-pub(crate) fn on_axis(x: f32, axis: MeshAxis) -> Option<u32>
+fn on_axis(x: f32, axis: MeshAxis) -> Option<u32>
     ensures found { IfSome result (IsOnAxis x axis) }
     ensures none { IsNone result → (n : ℕ) → ¬ IsOnAxis x axis n }
 {
@@ -83,36 +83,67 @@ fn behind(count: i64, begin: i64, last: u32) -> Option<u32>
     Some(distance as u32)
 }
 
-/// How far it is on the fine grid from one float of an axis to another.
-pub(crate) fn fine_change(from: f32, to: f32, axis: MeshAxis) -> Option<i64>
-    requires from { LiesOnAxis from axis }
-    requires to { LiesOnAxis to axis }
-    ensures found { IfSome result (IsFineChange from to axis) }
-    ensures only { IfSome result (λ n. (m : ℤ) → IsFineChange from to axis m → m ≡ n) }
-    ensures small { IfSome result (λ n. unsigned_abs n ≤ 5000000) }
-    ensures none { IsNone result → (change : ℤ) → ¬ IsFineChange from to axis change }
+/// Where a float lies on an axis; none where it is no number, infinite, or lies outside the field.
+pub(crate) fn place_on(x: f32, axis: MeshAxis) -> Option<AxisPlace>
+    ensures found { IfSome result (IsPlaceOn x axis) }
+    ensures none { IsNone result → ¬ LiesOnAxis x axis }
 {
-    let from = quantize(from, axis.fine, FINE_LIMIT)?;
-    let to = quantize(to, axis.fine, FINE_LIMIT)?;
-    difference(from, to)
+    let fine = fine_at(x, axis)?;
+    let number = number_at(x, axis, fine)?;
+    Some(AxisPlace { number, fine })
 }
 
-/// Fine steps from 0 of the game's numbers, of which a place of a level has fewer.
-const FINE_LIMIT: u64 = 0x8000_0000;
-
-/// Fine steps between two corners, at most.
-const MOST_CHANGE: u64 = 5000000;
-
-/// How far it is from one number to another; none where it is too far for a field.
-fn difference(from: i64, to: i64) -> Option<i64>
-    requires from { unsigned_abs from < 2 ^ 31 }
-    requires to { unsigned_abs to < 2 ^ 31 }
-    ensures found { IfSome result (λ n. (to ≡ from +ℤ n) × (unsigned_abs n ≤ 5000000)) }
-    ensures none { IsNone result → (n : ℤ) → unsigned_abs n ≤ 5000000 → ¬ (to ≡ from +ℤ n) }
+/// The number of a float on an axis, by its fine number. Half way between two numbers that one does not tell which of them is nearer.
+fn number_at(x: f32, axis: MeshAxis, fine: u32) -> Option<u32>
+    requires fine { IsFineAt x axis fine }
+    requires inside { fine ≤ 256 * axis.last + 256 }
+    requires near { (pos 256 *ℤ axis.begin +ℤ pos fine) ≤ℤ pos (2 ^ 31) }
+    ensures found { IfSome result (IsOnAxis x axis) }
+    ensures none { IsNone result → (n : ℕ) → ¬ IsOnAxis x axis n }
 {
-    let change = to - from;
-    if change.unsigned_abs() > MOST_CHANGE {
+    if fine % 256 == 0 {
+        return on_axis(x, axis);
+    }
+    Some(fine / 256)
+}
+
+/// The fine number of a float on an axis.
+fn fine_at(x: f32, axis: MeshAxis) -> Option<u32>
+    ensures found { IfSome result (IsFineAt x axis) }
+    ensures inside { IfSome result (λ fine. fine ≤ 256 * axis.last + 256) }
+    ensures near { IfSome result (λ fine. (pos 256 *ℤ axis.begin +ℤ pos fine) ≤ℤ pos (2 ^ 31)) }
+    ensures none { IsNone result → ¬ LiesOnAxis x axis }
+{
+    let steps = quantize(x, axis.fine, FINE_LIMIT)?;
+    fine_behind(steps, axis.begin, axis.last)
+}
+
+/// Fine steps from 0 of the game's numbers, of which a place of a level has fewer: 2^31 - 127. Those of a place that is 2^23 steps from 0 are more.
+const FINE_LIMIT: u64 = 0x7fff_ff81;
+
+/// How many fine steps a number of them lies behind the place half a step before the beginning; none where it lies before it, or farther than
+/// half a step behind the last number.
+fn fine_behind(steps: i64, begin: i64, last: u32) -> Option<u32>
+    requires steps { unsigned_abs steps < 2147483521 }
+    requires begin { unsigned_abs begin < 2 ^ 23 }
+    requires last { last ≤ 16384 }
+    ensures found { IfSome result (λ fine. steps +ℤ pos 128 ≡ pos 256 *ℤ begin +ℤ pos fine) }
+    ensures inside { IfSome result (λ fine. fine ≤ 256 * last + 256) }
+    ensures none { IsNone result → (fine : ℕ) → fine ≤ 256 * last + 256 → ¬ (steps +ℤ pos 128 ≡ pos 256 *ℤ begin +ℤ pos fine) }
+{
+    let fine = from_half_before(steps, begin);
+    if fine < 0 || fine > 256 * i64::from(last) + 256 {
         return None;
     }
-    Some(change)
+    Some(fine as u32)
+}
+
+/// How many fine steps a number of them lies behind the place half a step before a number of steps.
+fn from_half_before(steps: i64, begin: i64) -> i64
+    requires steps { unsigned_abs steps < 2147483521 }
+    requires begin { unsigned_abs begin < 2 ^ 23 }
+    ensures value { result ≡ steps +ℤ pos 128 -ℤ pos 256 *ℤ begin }
+    ensures small { unsigned_abs result < 2 ^ 33 }
+{
+    steps + 128 - 256 * begin
 }

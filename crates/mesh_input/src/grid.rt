@@ -1,4 +1,4 @@
-//! The grid of a level's field.
+//! The grid of a level's field, and what lies on it.
 ghost use Rattle.std.specs.Prelude.{◌≡◌, ℕ, ◌*◌, ◌^◌, ◌≤◌, ◌<◌};
 ghost use Rattle.std.specs.Int.RustNames.{unsigned_abs};
 ghost use Rattle.world_grid.specs.Grid.{length_of};
@@ -28,4 +28,32 @@ pub struct MeshGrid {
     pub y: MeshAxis,
     pub z: MeshAxis,
     ghost heights: { y.last ≤ 8190 },
+}
+
+/// Where a number of the game lies on an axis.
+#[derive(Clone, Copy)]
+pub(crate) struct AxisPlace {
+    /// Its number.
+    pub number: u32,
+    /// Its fine number: how many fine steps it lies behind the place half a step before the beginning of the axis.
+    pub fine: u32,
+    ghost few: { number ≤ 16384 },
+    ghost fine_few: { fine ≤ 4194560 },
+}
+
+/// A point of a mesh on the axes of a field.
+#[derive(Clone, Copy)]
+pub(crate) struct GridPoint {
+    pub x: AxisPlace,
+    pub y: AxisPlace,
+    pub z: AxisPlace,
+    ghost heights: { y.number ≤ 8190 },
+}
+
+/// A triangle of a mesh on the axes of a field.
+#[derive(Clone, Copy)]
+pub(crate) struct GridTriangle {
+    pub a: GridPoint,
+    pub b: GridPoint,
+    pub c: GridPoint,
 }

@@ -17,7 +17,10 @@ mod fault;
 mod gentle;
 mod grid;
 mod mesh;
+mod point;
 mod slope;
+#[cfg(test)]
+mod test_meshes;
 #[cfg(test)]
 mod test_slopes;
 mod triangle;

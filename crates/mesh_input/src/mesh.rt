@@ -1,5 +1,5 @@
 //! The arrays of a mesh: corners of triangles in the game's numbers.
-ghost use Rattle.std.specs.Prelude.{◌≡◌, ◌+◌, ◌*◌, ◌<◌, length};
+ghost use Rattle.std.specs.Prelude.{◌≡◌, ◌+◌, ◌*◌, ◌<◌, ◌^◌, length};
 ghost use Rattle.mesh_input.specs.Meshes.{vertex_of, facet_of, is_finite_point, is_finite, area_of};
 
 use world_grid::WorldPoint;
@@ -13,10 +13,11 @@ pub struct WorldTriangle {
 }
 
 /// The point of a vertex, where there is one.
-fn vertex(vertices: &[f32], index: u32) -> Option<WorldPoint>
+pub(crate) fn vertex(vertices: &[f32], index: usize) -> Option<WorldPoint>
+    requires few { 3 * index + 2 < 2 ^ 64 }
     ensures { result ≡ vertex_of vertices.now index }
 {
-    let at = 3 * index as usize;
+    let at = 3 * index;
     if at + 2 >= vertices.len() {
         return None;
     }
@@ -33,9 +34,9 @@ pub(crate) fn facet(vertices: &[f32], corners: &[u32], place: usize) -> Option<W
     ensures { result ≡ facet_of vertices.now corners.now place }
 {
     let at = 3 * place;
-    let a = vertex(vertices, corners[at])?;
-    let b = vertex(vertices, corners[at + 1])?;
-    let c = vertex(vertices, corners[at + 2])?;
+    let a = vertex(vertices, corners[at] as usize)?;
+    let b = vertex(vertices, corners[at + 1] as usize)?;
+    let c = vertex(vertices, corners[at + 2] as usize)?;
     Some(WorldTriangle { a, b, c })
 }
 

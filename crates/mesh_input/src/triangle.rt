@@ -1,19 +1,20 @@
 //! A triangle of a mesh on the grid of a field.
-ghost use Rattle.std.specs.Prelude.{◌≡◌, ℕ, ◌≤◌, MatchBool, IfSome, IsNone};
-ghost use Rattle.mesh_input.specs.declared.slope.Edge.{Edge};
-ghost use Rattle.mesh_input.specs.Triangles.{IsCornerAt, HasCorners, LiesInField, IsInField, IsEdge, IsSameEdge, IsWalkable, IsMade, moved, off_lines, is_on_line};
-ghost use Rattle.tri_raster.specs.declared.triangle.Corner3.{Corner3};
-ghost use Rattle.tri_raster.specs.declared.triangle.Tri.{Tri};
+ghost use Rattle.std.specs.Prelude.{◌≡◌, ℕ, ◌≤◌, MatchBool, pos, ◌+ℤ◌};
+ghost use Rattle.std.specs.Int.RustNames.{unsigned_abs};
+ghost use Rattle.mesh_input.specs.declared.grid.MeshGrid.{MeshGrid};
+ghost use Rattle.mesh_input.specs.declared.mesh.WorldTriangle.{WorldTriangle};
+ghost use Rattle.mesh_input.specs.Points.{IsTriangleOn, IsFromTo, corner_of};
+ghost use Rattle.mesh_input.specs.Triangles.{IsWalkable, IsMade, moved, off_lines, is_on_line};
 ghost use Rattle.tri_raster.specs.Triangles.{IsCorner, IsTriangle};
 
-use crate::axis::{LAST_ACROSS, fine_change, on_axis};
+use crate::axis::LAST_ACROSS;
 use crate::fault::MeshFault;
 use crate::gentle::is_gentle;
-use crate::grid::MeshGrid;
+use crate::grid::{AxisPlace, GridPoint, GridTriangle, MeshGrid};
 use crate::mesh::{MOST_AREA, WorldTriangle, is_finite};
+use crate::point::grid_triangle;
 use crate::slope::{Edge, Slope};
 use tri_raster::{Corner3, Tri};
-use world_grid::WorldPoint;
 
 /// The triangle of a field that one of the game is, which may have this area. Else what is wrong with it, first of all.
 pub(crate) fn tri(
@@ -24,68 +25,68 @@ pub(crate) fn tri(
 ) -> Result<Tri, MeshFault>
     ensures { IsMade grid.now slope facet.now area result }
 {
-    if !is_finite(facet) {
-        return Err(MeshFault::NoNumber);
+    match grid_triangle(grid, facet) {
+        Some(on) => tri_on(slope, &on, area),
+        None => Err(if is_finite(facet) {
+            MeshFault::Outside
+        } else {
+            MeshFault::NoNumber
+        }),
     }
-    let Some(tri) = corners(grid, facet) else {
-        return Err(MeshFault::Outside);
-    };
+}
+
+/// The triangle of a field that one on its axes is, which may have this area.
+pub(crate) fn tri_on(slope: Slope, on: &GridTriangle, area: u32) -> Result<Tri, MeshFault>
+    ensures { (grid : MeshGrid) → (facet : WorldTriangle) → IsTriangleOn grid facet on.now → IsMade grid slope facet area result }
+{
     if area > MOST_AREA {
         return Err(MeshFault::BadArea);
     }
-    let area = if is_walkable(grid, slope, facet) {
-        area
-    } else {
-        0
-    };
-    Ok(off_lines(Tri { area, ..tri }))
+    let area = if is_walkable(slope, on) { area } else { 0 };
+    Ok(off_lines(Tri {
+        a: corner(on.a),
+        b: corner(on.b),
+        c: corner(on.c),
+        area,
+    }))
 }
 
-/// A point on the grid; none where it lies outside.
-fn corner(grid: &MeshGrid, at: WorldPoint) -> Option<Corner3>
-    ensures found { IfSome result (IsCornerAt grid.now at) }
-    ensures none { IsNone result → ¬ LiesInField grid.now at }
+/// A point on the axes as a corner of the field.
+fn corner(point: GridPoint) -> Corner3
+    ensures { result ≡ corner_of point }
 {
-    let x = on_axis(at.x, grid.x)?;
-    let y = on_axis(at.y, grid.y)?;
-    let z = on_axis(at.z, grid.z)?;
-    Some(Corner3 { x, y, z })
-}
-
-/// The triangle on the grid, with no area; none where a corner lies outside.
-fn corners(grid: &MeshGrid, facet: &WorldTriangle) -> Option<Tri>
-    ensures found { IfSome result (HasCorners grid.now facet.now) }
-    ensures none { IsNone result → ¬ IsInField grid.now facet.now }
-{
-    let a = corner(grid, facet.a)?;
-    let b = corner(grid, facet.b)?;
-    let c = corner(grid, facet.c)?;
-    Some(Tri { a, b, c, area: 0 })
-}
-
-/// Whether somebody can walk on a triangle.
-fn is_walkable(grid: &MeshGrid, slope: Slope, facet: &WorldTriangle) -> bool
-    requires { IsInField grid.now facet.now }
-    ensures { MatchBool result (IsWalkable grid.now slope facet.now) (¬ IsWalkable grid.now slope facet.now) }
-{
-    match (edge(grid, facet.a, facet.b), edge(grid, facet.a, facet.c)) {
-        (Some(first), Some(second)) => is_gentle(slope, first, second),
-        _ => false,
+    Corner3 {
+        x: point.x.number,
+        y: point.y.number,
+        z: point.z.number,
     }
 }
 
-/// The edge from one point to another, on the fine grid.
-fn edge(grid: &MeshGrid, from: WorldPoint, to: WorldPoint) -> Option<Edge>
-    requires from { LiesInField grid.now from }
-    requires to { LiesInField grid.now to }
-    ensures found { IfSome result (IsEdge grid.now from to) }
-    ensures only { IfSome result (λ edge. (other : Edge) → IsEdge grid.now from to other → IsSameEdge edge other) }
-    ensures none { IsNone result → (edge : Edge) → ¬ IsEdge grid.now from to edge }
+/// Whether somebody can walk on a triangle.
+fn is_walkable(slope: Slope, on: &GridTriangle) -> bool
+    ensures { (grid : MeshGrid) → (facet : WorldTriangle) → IsTriangleOn grid facet on.now
+        → MatchBool result (IsWalkable grid slope facet) (¬ IsWalkable grid slope facet) }
 {
-    let x = fine_change(from.x, to.x, grid.x)?;
-    let y = fine_change(from.y, to.y, grid.y)?;
-    let z = fine_change(from.z, to.z, grid.z)?;
-    Some(Edge { x, y, z })
+    is_gentle(slope, edge(on.a, on.b), edge(on.a, on.c))
+}
+
+/// The edge from one point to another, on the fine grid.
+fn edge(from: GridPoint, to: GridPoint) -> Edge
+    ensures { IsFromTo from to result }
+{
+    Edge {
+        x: change(from.x, to.x),
+        y: change(from.y, to.y),
+        z: change(from.z, to.z),
+    }
+}
+
+/// How many fine steps it is from one place of an axis to another.
+fn change(from: AxisPlace, to: AxisPlace) -> i64
+    ensures value { pos to.fine ≡ pos from.fine +ℤ result }
+    ensures small { unsigned_abs result ≤ 5000000 }
+{
+    i64::from(to.fine) - i64::from(from.fine)
 }
 
 /// Whether three numbers of corners are all the same line between columns.

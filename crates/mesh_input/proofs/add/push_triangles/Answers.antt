@@ -12,5 +12,5 @@ loop-place-init c = record { made = []; are = tt; count = refl; added = sym (app
 pub loop-place-preserved : goal.loop-place-preserved
 loop-place-preserved c =
     let pushed : c.push.new.self.items ≡ c.loop-place.tris.items ++ c.in-Ok.tri ∷ [] = grind (arith, common_steps) in
-    first_more c.args.grid.now c.args.slope (lists_of c.args.vertices.now c.args.corners.now c.args.areas.now) c.loop-place.place c.args.tris.now.items c.loop-place.tris.items
+    first_more c.args.mesh.grid.now c.args.mesh.slope (lists_of c.args.mesh.vertices.now c.args.mesh.corners.now c.args.mesh.areas.now) c.loop-place.place c.args.tris.now.items c.loop-place.tris.items
     c.push.new.self.items c.in-Ok.tri c.loop-place.invariant c.in-Ok.ensures pushed
