@@ -3,8 +3,9 @@
 //     ways_peer INPUT
 //
 // Each line that is written is a measure and its nanoseconds a call, the least processor time of three runs: `find_path` is findPath and
-// findStraightPath, `flood` findPolysAroundCircle of 128 cells, `ways_to_one` one of the whole level, `follow_8_ahead` a step of half a cell of a
-// dtPathCorridor by isValid, findCorners and movePosition. A height unit is a cell.
+// findStraightPath, `flood` findPolysAroundCircle of 128 cells, `ways_to_one` one of the whole level and the ways of all starts by its parents,
+// `follow_8_ahead` a step of half a cell of a dtPathCorridor by isValid, findCorners and movePosition. A height unit is a cell. `polygons_flood` and
+// `polygons_to_one` are the polygons of such a search.
 #include <DetourPathCorridor.h>
 
 #include <cstdio>
@@ -66,13 +67,35 @@ static size_t circles(Level& level, const dtPolyRef ref, const float* at, float 
     return count;
 }
 
+static size_t flood_polygons, all_polygons; // of all circles together; of the one over the whole level
+
 static size_t floods(Level& level, std::vector<Path>& paths) {
-    for (const Path& path : paths) must(circles(level, path.from_ref, path.from, 128) > 0, "findPolysAroundCircle");
+    flood_polygons = 0;
+    for (const Path& path : paths) {
+        const size_t count = circles(level, path.from_ref, path.from, 128);
+        must(count > 0, "findPolysAroundCircle");
+        flood_polygons += count;
+    }
     return paths.size();
 }
 
+// The way of each start to one goal, as bench_ways walks them: where each polygon stands in the search is written down by tile and place there, and each way
+// is walked by the parents.
 static size_t ways_to_one(Level& level, std::vector<Path>& paths) {
-    must(circles(level, paths[0].to_ref, paths[0].to, 1e6f) > 0, "findPolysAroundCircle");
+    static std::vector<std::vector<unsigned>> place_of;
+    static size_t walked;
+    const dtNavMesh& mesh = *level.query->getAttachedNavMesh();
+    all_polygons = circles(level, paths[0].to_ref, paths[0].to, 1e6f);
+    must(all_polygons > 0, "findPolysAroundCircle");
+    for (int tile = place_of.size(); tile < mesh.getMaxTiles(); tile++) {
+        const dtMeshTile* it = mesh.getTile(tile);
+        place_of.emplace_back(it->header ? it->header->polyCount : 0);
+    }
+    const auto place = [&](dtPolyRef ref) -> unsigned& { return place_of[mesh.decodePolyIdTile(ref)][mesh.decodePolyIdPoly(ref)]; };
+    for (size_t i = 0; i < all_polygons; i++) place(reached[i]) = i;
+    for (const Path& path : paths)
+        for (unsigned at = place(path.from_ref); at; at = place(parents[at])) walked++;
+    must(walked > 0, "ways to one goal");
     return 1;
 }
 
@@ -122,6 +145,7 @@ int main(int count, char** words) {
     measure("find_path", level, paths, find_paths);
     measure("flood", level, paths, floods);
     measure("ways_to_one", level, paths, ways_to_one);
+    printf("polygons_flood %.1f\npolygons_to_one %zu\n", double(flood_polygons) / paths.size(), all_polygons);
     measure("follow_8_ahead", level, paths, follow);
     return 0;
 }

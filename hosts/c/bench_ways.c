@@ -29,6 +29,7 @@ static navd_view view;
 static navd_shown shown;
 static route paths[MOST_PATHS];
 static size_t paths_count, apart_count, all_links;
+static size_t flood_polygons, all_polygons; /* of all floods together; of the flood back over the whole level */
 static navd_way apart[MOST_APART]; /* no walk joins them */
 static navd_link links[MOST_ROOM];
 static navd_turn turns[MOST_ROOM];
@@ -97,14 +98,17 @@ static size_t partial_plans(void) {
 }
 
 static size_t floods(void) {
+    flood_polygons = 0;
     for (size_t i = 0; i < paths_count; i++) {
         navd_flood it = {.at = paths[i].way.from, .y = paths[i].way.from_y, .areas = UINT64_MAX, .most_cost = 128 * 16};
         want(!navd_view_flood(&view, &it, no_costs, 0, reached, MOST_ROOM), "a flood");
+        flood_polygons += it.polygons;
     }
     return paths_count;
 }
 
-/* The way of each start to one goal, by one flood back: the links of all of them are counted. One call for all. */
+/* The way of each start to one goal, by one flood back: where each polygon stands in it is written down, and each way is walked. One call for all. The peer
+ * does the same over the polygons and parents of its search. */
 static size_t ways_to_one(void) {
     static uint32_t *place_of[1 << 16];
     static size_t walked;
@@ -116,6 +120,7 @@ static size_t ways_to_one(void) {
         want(!navd_view_polygons(&view, tile, &face, 0, &count), "polygons");
         want((place_of[tile] = calloc(count + 1, sizeof(uint32_t))) != NULL, "memory");
     }
+    all_polygons = it.polygons;
     for (size_t i = 0; i < it.polygons; i++) place_of[reached[i].polygon.tile][reached[i].polygon.index] = (uint32_t)i;
     for (size_t i = 0; i < paths_count; i++)
         for (size_t at = place_of[paths[i].path.first.tile][paths[i].path.first.index]; at; at = reached[at].via) walked++;
@@ -245,6 +250,7 @@ int main(int argc, char **words) {
     measure("partial", partial_plans);
     measure("flood", floods);
     if (paths_count) measure("ways_to_one", ways_to_one);
+    if (paths_count) printf("polygons_flood %.1f\npolygons_to_one %zu\n", (double)flood_polygons / (double)paths_count, all_polygons);
     measure("check_a_link", checks);
     measure("check_in_turn", checks_in_turn);
     measure("follow_8_ahead", follow_8);

@@ -12,6 +12,7 @@ mod FloodLaws
 mod Headings
 mod FloodLoops
 mod MappedLists
+mod OpenAreas
 mod ReachLaws
 mod PlanParts
 mod FilteredMaps

@@ -1,4 +1,4 @@
--- What stands at a place of a mapped list.
+-- What stands at a place of a mapped list. Lists that are mapped alike.
 use Rattle.std.proofs.Common.{◌≡◌, ℕ, zero, suc, ◌<◌, List, [], ◌∷◌, map, refl, sym, subst, ap, ◌∙◌}
 use Rattle.std.specs.Prelude.{Contains, slice_get, Some}
 use Rattle.std.proofs.lemmas.List.{get_or-map, length-map}
@@ -25,3 +25,8 @@ pub get-map : {X Y : Type 0} (f : X → Y) (xs : List X) (k : ℕ) (x : X) → s
 get-map f [] k x is = absurd (none-some x is)
 get-map f (y ∷ xs) zero x is = ap (λ z. Some (f z)) (same_Some y x is)
 get-map f (y ∷ xs) (suc k) x is = get-map f xs k x is
+
+-- functions that map each element alike map the list alike
+pub map-same : {X Y : Type 0} (f g : X → Y) (xs : List X) → ((k : ℕ) (x : X) → slice_get xs k ≡ Some x → f x ≡ g x) → map f xs ≡ map g xs
+map-same f g [] same = refl
+map-same f g (x ∷ xs) same = λ i. same 0 x refl i ∷ map-same f g xs (λ k y is. same (suc k) y is) i

@@ -9,9 +9,9 @@ ghost use Rattle.corridor_search.specs.Estimates.{extent_at};
 ghost use Rattle.path_queries.specs.BackGraphs.{IsExploredBack};
 ghost use Rattle.path_queries.specs.Filters.{IsFilter, costs_in};
 
-use crate::filtered_graph::step_cost;
+use crate::filtered_graph::{StepExtents, extent_there, step_cost, step_extents};
 use crate::filters::{Filter, are_all_open, is_open};
-use corridor_search::{extent_at, middle, polygon_at, push_link_ends, vertex_at};
+use corridor_search::{middle, polygon_at, push_link_ends, vertex_at};
 use graph_search::{Explored, Graph, Limits, Room, Step, Vertex, explore_in};
 use mesh_types::{Mesh, PolyRef};
 use nav_ground::AREAS;
@@ -54,8 +54,11 @@ impl Graph for BackGraph<'_> {
     }
 
     fn weight(&self, step: Step, to: Vertex) -> u64 {
-        let entered = extent_at(self.mesh, polygon_at(step.from));
-        let left = extent_at(self.mesh, polygon_at(to));
+        let StepExtents { left, entered } = step_extents(
+            self.mesh,
+            polygon_at(to),
+            polygon_at(step.from),
+        );
         step_cost(self.costs, middle(left), entered)
     }
 
@@ -73,7 +76,7 @@ fn may_be_entered(mesh: &Mesh, areas: u64, at: PolyRef) -> bool
     if are_all_open(areas) {
         return true;
     }
-    is_open(areas, extent_at(mesh, at).area)
+    is_open(areas, extent_there(mesh, at).area)
 }
 
 /// Searches back from a polygon through a filter within limits, in room that an earlier search may have left.

@@ -1,19 +1,19 @@
 //! The mesh as a filter lets it be walked, as a graph.
 
-ghost use Rattle.std.specs.Prelude.{◌≡◌, ◌*◌, max, slice_index};
+ghost use Rattle.std.specs.Prelude.{◌≡◌, ◌*◌, max, slice_get, slice_index, Some};
 ghost use Rattle.nav_base.specs.Point.{IsInField};
 ghost use Rattle.nav_base.specs.Distance.{distance_of};
 ghost use Rattle.nav_ground.specs.Limits.{IsArea};
 ghost use Rattle.mesh_types.specs.Soundness.{IsSound};
 ghost use Rattle.corridor_search.specs.MeshGraphs.{IsThere};
-ghost use Rattle.corridor_search.specs.Estimates.{IsBox, middle_of};
+ghost use Rattle.corridor_search.specs.Estimates.{IsBox, extent_at, middle_of};
 ghost use Rattle.path_queries.specs.Filters.{AreCosts};
 ghost use Rattle.path_queries.specs.FilteredGraphs.{leads_on};
 
 use crate::filters::{are_all_open, is_open};
-use corridor_search::{distance, extent_at, middle, polygon_at, push_link_ends};
+use corridor_search::{distance, middle, polygon_at, push_link_ends};
 use graph_search::{Graph, Step, Vertex};
-use mesh_types::{Extent, Mesh, PolyRef};
+use mesh_types::{Extent, Mesh, PolyRef, TileMesh};
 use nav_base::Point;
 use nav_ground::AREAS;
 use std::alloc::AllocError;
@@ -60,8 +60,11 @@ impl Graph for FilteredGraph<'_> {
     }
 
     fn weight(&self, step: Step, to: Vertex) -> u64 {
-        let left = extent_at(self.mesh, polygon_at(step.from));
-        let entered = extent_at(self.mesh, polygon_at(to));
+        let StepExtents { left, entered } = step_extents(
+            self.mesh,
+            polygon_at(step.from),
+            polygon_at(to),
+        );
         step_cost(self.costs, middle(left), entered)
     }
 
@@ -70,7 +73,7 @@ impl Graph for FilteredGraph<'_> {
         if self.least == 0 {
             return 0;
         }
-        let middle = middle(extent_at(self.mesh, polygon_at(from)));
+        let middle = middle(extent_there(self.mesh, polygon_at(from)));
         u64::from(distance(middle, self.aim)) * u64::from(self.least)
     }
 }
@@ -84,7 +87,60 @@ pub(crate) fn leads_on(mesh: &Mesh, areas: u64, start: PolyRef, at: PolyRef) -> 
     if are_all_open(areas) {
         return true;
     }
-    at == start || is_open(areas, extent_at(mesh, at).area)
+    at == start || is_open(areas, extent_there(mesh, at).area)
+}
+
+/// The extents of the polygons that a step leaves and enters.
+#[derive(Clone, Copy)]
+pub(crate) struct StepExtents {
+    pub(crate) left: Extent,
+    pub(crate) entered: Extent,
+}
+
+/// The extents of two polygons that are there. Most stand in one tile, which is looked up once then.
+pub(crate) fn step_extents(mesh: &Mesh, left: PolyRef, entered: PolyRef) -> StepExtents
+    requires left { IsThere mesh.now left }
+    requires entered { IsThere mesh.now entered }
+    ensures left { result.left ≡ extent_at mesh.now left }
+    ensures entered { result.entered ≡ extent_at mesh.now entered }
+{
+    let tile = tile_there(mesh, left);
+    if entered.tile == left.tile {
+        return StepExtents {
+            left: extent_in(mesh, tile, left),
+            entered: extent_in(mesh, tile, entered),
+        };
+    }
+    StepExtents {
+        left: extent_in(mesh, tile, left),
+        entered: extent_there(mesh, entered),
+    }
+}
+
+/// The extent of a polygon that is there.
+pub(crate) fn extent_there(mesh: &Mesh, at: PolyRef) -> Extent
+    requires there { IsThere mesh.now at }
+    ensures { result ≡ extent_at mesh.now at }
+{
+    extent_in(mesh, tile_there(mesh, at), at)
+}
+
+/// The tile of a polygon that is there.
+fn tile_there(mesh: &Mesh, at: PolyRef) -> &TileMesh
+    requires there { IsThere mesh.now at }
+    ensures { slice_get mesh.now.tiles at.tile ≡ Some result.now }
+{
+    mesh.tiles.at(at.tile as usize).get()
+}
+
+/// The extent of a polygon of a tile.
+fn extent_in(mesh: &Mesh, tile: &TileMesh, at: PolyRef) -> Extent
+    requires there { IsThere mesh.now at }
+    requires tile { slice_get mesh.now.tiles at.tile ≡ Some tile.now }
+    ensures { result ≡ extent_at mesh.now at }
+{
+    let _ = mesh;
+    tile.polys.extent(at.index as usize)
 }
 
 /// What a step costs from a point into a polygon with an extent: the distance to its middle, rounded up and at least 1, times the cost of

@@ -1,16 +1,17 @@
 //! Floods: the polygons within a cost of a place.
 
-ghost use Rattle.std.specs.Prelude.{◌≡◌, All, IfOk};
+ghost use Rattle.std.specs.Prelude.{◌≡◌, All, IfOk, map};
 ghost use Rattle.nav_ground.specs.Limits.{IsSetting};
 ghost use Rattle.graph_search.specs.declared.exploring.ReachedVertex.{ReachedVertex};
 ghost use Rattle.mesh_types.specs.Soundness.{IsSound};
 ghost use Rattle.corridor_search.specs.MeshGraphs.{IsThere, polygon_of};
+ghost use Rattle.path_queries.specs.BackGraphs.{flooded_back};
 ghost use Rattle.path_queries.specs.Floods.{CanFlood, IsRightFlood};
 ghost use Rattle.path_queries.specs.Searches.{AreViaNoLater, flooded_of};
 
 use crate::asking::AskedIn;
 use crate::filtered_graph::leads_on;
-use crate::filters::Filter;
+use crate::filters::{Filter, are_all_open};
 use crate::searches::{Sought, search_through};
 use corridor_search::polygon_at;
 use graph_search::{Limits, ReachedVertex, Room};
@@ -118,6 +119,44 @@ impl AskedIn for FloodQuery {
 
 /// The polygons of a flood: of those that a search reached, the ones from which a walk may lead on. The others may not be entered.
 fn polygons_of(
+    alloc: Global,
+    mesh: &Mesh,
+    areas: u64,
+    first: PolyRef,
+    reached: &[ReachedVertex],
+) -> Result<Items<Flooded>, AllocError>
+    requires sound { IsSound mesh.now }
+    requires there { All (λ (entry : ReachedVertex). IsThere mesh.now (polygon_of entry.vertex)) reached.now }
+    requires via { AreViaNoLater reached.now }
+    ensures { IfOk result (λ list. list ≡ flooded_of mesh.now areas first reached.now) }
+{
+    if are_all_open(areas) {
+        let list = polygons_reached(alloc, reached)?;
+        return Ok(Items::from_vec(list));
+    }
+    kept_polygons(alloc, mesh, areas, first, reached)
+}
+
+/// The polygons of vertices that were reached, in order.
+pub(crate) fn polygons_reached(
+    alloc: Global,
+    reached: &[ReachedVertex],
+) -> Result<Vec<Flooded>, AllocError>
+    ensures { IfOk result (λ list. list.items ≡ map flooded_back reached.now) }
+{
+    let polygons = reached.iter().map(|entry| Flooded {
+        at: PolyRef {
+            tile: entry.vertex.block,
+            index: entry.vertex.place,
+        },
+        cost: entry.cost,
+        via: entry.via,
+    });
+    polygons.collect(alloc)
+}
+
+/// The polygons of a flood, one by one.
+fn kept_polygons(
     alloc: Global,
     mesh: &Mesh,
     areas: u64,

@@ -1,19 +1,18 @@
 //! Floods back: the polygons from which a place is reached within a cost.
 
-ghost use Rattle.std.specs.Prelude.{◌≡◌, IfOk, map};
+ghost use Rattle.std.specs.Prelude.{IfOk};
 ghost use Rattle.nav_ground.specs.Limits.{IsSetting};
 ghost use Rattle.mesh_types.specs.Passages.{IsTwoWay};
 ghost use Rattle.mesh_types.specs.Soundness.{IsSound};
 ghost use Rattle.corridor_search.specs.MeshGraphs.{IsThere};
-ghost use Rattle.path_queries.specs.BackGraphs.{flooded_back};
 ghost use Rattle.path_queries.specs.Filters.{IsFilter};
 ghost use Rattle.path_queries.specs.Floods.{CanFlood};
 ghost use Rattle.path_queries.specs.FloodsBack.{IsRightFloodBack, IsWholeFloodBack};
 
 use crate::back_graph::search_back;
 use crate::filters::Filter;
-use crate::floods::{FloodAnswer, FloodQuery, Flooded};
-use graph_search::{Limits, ReachedVertex, Room};
+use crate::floods::{FloodAnswer, FloodQuery, Flooded, polygons_reached};
+use graph_search::{Limits, Room};
 use mesh_locate::locate;
 use mesh_types::{Mesh, PolyRef};
 use nav_lists::Items;
@@ -76,21 +75,6 @@ pub(crate) fn flood_to(
         count: usize::MAX,
     };
     let found = search_back(alloc, room, mesh, filter, last, limits)?;
-    let list = polygons_back(alloc, found.reached.as_slice())?;
+    let list = polygons_reached(alloc, found.reached.as_slice())?;
     Ok(Items::from_vec(list))
-}
-
-/// The polygons of vertices that were reached, in order.
-fn polygons_back(alloc: Global, reached: &[ReachedVertex]) -> Result<Vec<Flooded>, AllocError>
-    ensures { IfOk result (λ list. list.items ≡ map flooded_back reached.now) }
-{
-    let polygons = reached.iter().map(|entry| Flooded {
-        at: PolyRef {
-            tile: entry.vertex.block,
-            index: entry.vertex.place,
-        },
-        cost: entry.cost,
-        via: entry.via,
-    });
-    polygons.collect(alloc)
 }

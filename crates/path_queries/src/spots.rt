@@ -12,7 +12,7 @@ ghost use Rattle.corridor_search.specs.MeshGraphs.{IsThere, polygon_of};
 ghost use Rattle.path_queries.specs.PartialWays.{IsNoWorse};
 ghost use Rattle.path_queries.specs.Spots.{AreThere, IsKeptAt, IsNearerSpot, IsNearestSpot, IsSpotNear, IsToward};
 
-use crate::filtered_graph::leads_on;
+use crate::filtered_graph::{extent_there, leads_on};
 use crate::plans::WayEnd;
 use corridor_search::{extent_at, polygon_at};
 use graph_search::ReachedVertex;
@@ -51,7 +51,7 @@ pub(crate) fn nearest_spot(
     requires toward { IsToward toward }
     ensures { IsNearestSpot mesh.now areas first toward reached.now result }
 {
-    let likely = likely_place(mesh, areas, first, reached, toward.goal);
+    let likely = likely_place(mesh, areas, first, reached, toward);
     let mut nearest = spot_at(mesh, reached, likely, toward);
     for place in 0..reached.len() {
         if leads_on(mesh, areas, first, polygon_at(reached[place].vertex)) {
@@ -61,38 +61,48 @@ pub(crate) fn nearest_spot(
     nearest
 }
 
-/// One in so many polygons is looked at for a first spot.
-const PART: usize = 16;
-
-/// The place of the polygon whose box is nearest to a point, of a part of all: its spot is likely to be near enough that most of the others are
-/// passed over.
+/// The place of the polygon whose points can be nearest to a goal, by its box and its floors: its spot is likely to be so near that nearly all
+/// others are passed over.
 fn likely_place(
     mesh: &Mesh,
     areas: u64,
     first: PolyRef,
     reached: &[ReachedVertex],
-    p: Point,
+    toward: Toward,
 ) -> usize
     requires sound { IsSound mesh.now }
     requires there { AreThere mesh.now reached.now }
     requires begins { IsKeptAt mesh.now areas first reached.now 0 }
-    requires point { HasCoordinates p }
+    requires toward { IsToward toward }
     ensures { IsKeptAt mesh.now areas first reached.now result }
 {
     let mut likely = 0;
     let mut least = u64::MAX;
-    for part in 0..reached.len() / PART {
-        let place = part * PART;
+    for place in 0..reached.len() {
         let at = polygon_at(reached[place].vertex);
         if leads_on(mesh, areas, first, at) {
-            let gap = box_gap(extent_at(mesh, at), p);
-            if gap < least {
-                least = gap;
+            let bound = least_near(mesh, at, toward, least);
+            if bound < least {
+                least = bound;
                 likely = place;
             }
         }
     }
     likely
+}
+
+/// How near the points of a polygon can be, by its box and its floors; where the box alone is no nearer than a number, by the box.
+fn least_near(mesh: &Mesh, at: PolyRef, toward: Toward, least: u64) -> u64
+    requires sound { IsSound mesh.now }
+    requires there { IsThere mesh.now at }
+    requires toward { IsToward toward }
+{
+    let gap = box_gap(extent_there(mesh, at), toward.goal);
+    if gap >= least {
+        return gap;
+    }
+    let polygon = polygon_there(mesh, at);
+    gap + square_rise(&polygon, toward)
 }
 
 /// What was found, or the spot of the polygon at a place, if that is nearer. Of most polygons the box alone is looked at, and of most others
@@ -112,13 +122,16 @@ fn nearer_spot(
     ensures { IsNearerSpot mesh.now toward reached.now place nearest result }
 {
     let at = polygon_at(reached[place].vertex);
-    let gap = box_gap(extent_at(mesh, at), toward.goal);
+    let gap = box_gap(extent_there(mesh, at), toward.goal);
     if is_farther(gap, nearest.near) {
         return nearest;
     }
     let polygon = polygon_there(mesh, at);
     let in_box = gap + square_rise(&polygon, toward);
     if is_farther(in_box, nearest.near) {
+        return nearest;
+    }
+    if place == nearest.place {
         return nearest;
     }
     let spot = spot_in(mesh, reached, place, &polygon, toward);

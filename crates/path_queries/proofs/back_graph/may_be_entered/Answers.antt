@@ -5,7 +5,7 @@ use Rattle.path_queries.proofs.back_graph.may_be_entered.Goals as goal
 
 pub is_open-requires : goal.is_open-requires
 is_open-requires c =
-    let most = (extent-rules c.args.mesh.now c.args.at c.extent_at.result c.requires.sound c.requires.there c.extent_at.ensures).area.most
+    let most = (extent-rules c.args.mesh.now c.args.at c.extent_there.result c.requires.sound c.requires.there c.extent_there.ensures).area.most
     in
     omega (arith, most)
 

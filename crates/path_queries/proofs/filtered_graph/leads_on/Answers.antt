@@ -1,25 +1,14 @@
-use Rattle.std.proofs.Common.{◌≡◌, ◌∙◌, Bool, true, false, refl, sym, ap, arith}
-use Rattle.std.specs.Prelude.{◌==◌, ◌&&◌, ◌||◌}
-use Rattle.corridor_search.specs.Estimates.{extent_at}
+use Rattle.std.proofs.Common.{sym, arith}
 use Rattle.corridor_search.proofs.Extents.{extent-rules}
+use Rattle.path_queries.proofs.OpenAreas.{leads-where-open}
 use Rattle.path_queries.proofs.filtered_graph.leads_on.Goals as goal
-
-or-true : (b : Bool) → (b || true) ≡ true
-or-true true = refl
-or-true false = refl
 
 pub is_open-requires : goal.is_open-requires
 is_open-requires c =
-    let most = (extent-rules c.args.mesh.now c.args.at c.extent_at.result c.requires.sound c.requires.there c.extent_at.ensures).area.most
+    let most = (extent-rules c.args.mesh.now c.args.at c.extent_there.result c.requires.sound c.requires.there c.extent_there.ensures).area.most
     in
     omega (arith, most)
 
 pub returns-then-are_all_open : goal.returns-then-are_all_open
 returns-then-are_all_open c =
-    let mesh = c.args.mesh.now in
-    let at = c.args.at in
-    let start = c.args.start in
-    let rules = extent-rules mesh at (extent_at mesh at) c.requires.sound c.requires.there refl in
-    let open_there = c.are_all_open.ensures c.if-are_all_open.true (extent_at mesh at).area rules.area in
-    sym (ap (λ (b : Bool). at.tile == start.tile && at.index == start.index || b) open_there
-    ∙ or-true (at.tile == start.tile && at.index == start.index))
+    sym (leads-where-open c.args.mesh.now c.args.areas c.args.start c.args.at c.requires.sound c.requires.there (c.are_all_open.ensures c.if-are_all_open.true))

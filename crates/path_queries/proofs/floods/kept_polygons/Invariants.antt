@@ -2,7 +2,7 @@ use Rattle.std.proofs.Common.{◌≡◌, ℕ, ◌<◌, length, map, take}
 use Rattle.std.specs.Prelude.{slice_index_or}
 use Rattle.std.specs.List.{filter}
 use Rattle.path_queries.specs.Searches.{flooded_as, is_kept, kept_before}
-use Rattle.path_queries.proofs.floods.polygons_of.Given as goal
+use Rattle.path_queries.proofs.floods.kept_polygons.Given as goal
 
 -- those kept of the entries so far, and the place of each among them
 abbrev pub invariant-loop-entry : goal.invariant-loop-entry
