@@ -1,0 +1,5 @@
+pub mod Unreached
+pub mod Ordered
+pub mod Windows
+pub mod Merges
+pub mod Changed
