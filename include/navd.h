@@ -82,6 +82,7 @@ extern "C" {
 #define NAVD_NO_OBSTACLE 24u    /* no obstacle has the id; nothing was done */
 #define NAVD_NOT_SAVED 25u      /* the bytes are not what a save wrote; nothing was done */
 #define NAVD_ABOUT 26u          /* a line was found; the shortest may be shorter, by no more than `upper` less `lower` */
+#define NAVD_OVERLAPS 27u       /* the agent overlaps another one; where it stands is told all the same */
 
 /* A handle of a level. Zeroed, it holds nothing: navd_level level = {0}; */
 typedef struct {
@@ -494,6 +495,31 @@ typedef struct {
     uint64_t num, den;
     uint32_t edge;
 } navd_wall;
+
+/* A point of the plane, or a vector, in 1/256 of a cell: sixteen to a unit of navd_point. */
+typedef struct {
+    int32_t x, z;
+} navd_fine;
+
+/* An agent of a crowd, a disc. It is the host's own: it may be copied, saved and taken out at will. Calls tell where it is: the polygon that holds its
+ * middle `at`, with the polygon's floors; `stranded` 1 where none is known. The host writes the rest. `idle` 1: it makes room for all others. `areas`: bit
+ * a for area a that it may enter. `radius`, 1 to `full`, `full`, at most 8191, and `speed`, how far it may go in a step, at most 8191, are in 1/256 of a
+ * cell. `wish`, by which vector it would like to go, and `left`, how far its goal is, are navd_view_lead's or the host's. What is behind is 0 at first. */
+typedef struct {
+    navd_polygon polygon;
+    navd_fine at;
+    uint32_t low, high, stranded, idle;
+    uint64_t areas, left;
+    uint32_t radius, full, speed, unused;
+    navd_fine wish, last, meant;
+    uint32_t waited, tired;
+} navd_agent;
+
+/* How far the agents of a crowd see, at most 16384 in 1/256 of a cell, how many steps it makes a second, 1 to 1000, and in how many rounds moves are
+ * granted, 1 to 64: 3072, 20 and 8, say. */
+typedef struct {
+    uint32_t sight, hz, rounds;
+} navd_crowd;
 
 /* The first line of a text that fails, from 1, and the kind of its fault, as docs/FORMATS.md has them. */
 typedef struct {
@@ -990,6 +1016,28 @@ uint32_t navd_view_nearest_wall(navd_view *view, const navd_around *around, navd
  * many there are is left at `count`.
  * NAVD_OK. NAVD_NO_START: around->from is no place of what the view shows. NAVD_OUT_OF_RANGE: before all others. NAVD_EMPTY. NAVD_NO_MEMORY. */
 uint32_t navd_view_walls(navd_view *view, const navd_around *around, navd_wall *walls, size_t room, size_t *count);
+
+/* One step of a crowd of at most 65535 agents, with wishes of the host's own: agent i is granted the first of the moves from moves[first[i]] to before
+ * moves[first[i + 1]] that is free as the others move; where none is, it stands. `first` has one number more than there are agents. In each round those
+ * named in `order` have their turns, who goes before others first. Agents that do not overlap when the step begins do not at any moment of it; two that
+ * do come no nearer. Each goes straight and evenly, on the mesh, no farther than its speed; one that has nobody near is granted the first of its moves
+ * that the mesh allows. Before the step each is placed in a polygon of what the view shows that holds its middle, on floors no farther than the climb from
+ * those that it had; where there is none it is stranded: it stands, and others keep away from it.
+ * NAVD_OK: where each agent then is, is told. NAVD_OUT_OF_RANGE: before all others. NAVD_EMPTY. NAVD_NO_MEMORY. */
+uint32_t navd_view_crowd_grant(navd_view *view, const navd_crowd *rules, navd_agent *agents, size_t count, const uint32_t *order, size_t order_count,
+                               const size_t *first, size_t first_count, const navd_fine *moves, size_t moves_count);
+
+/* Where an agent with the middle agent->at at height y stands beside others: in the polygon with the nearest floors, no farther than the climb from y.
+ * NAVD_OK: it is told where. NAVD_OVERLAPS: so it is, and the agent overlaps one of the others; it may enter all the same, and then comes no nearer to
+ * that one. NAVD_NO_START: no polygon holds it. NAVD_OUT_OF_RANGE: before all others. NAVD_EMPTY. NAVD_NO_MEMORY. */
+uint32_t navd_view_crowd_enter(navd_view *view, const navd_agent *agents, size_t count, navd_agent *agent, uint32_t y);
+
+/* Where a kept path leads an agent: its links from the one that leaves the agent's polygon on, of which so many as `link` says were behind it before.
+ * Those from there on are looked at first, up to 32, and then the 16 before; behind the last link the agent's polygon has to hold the goal.
+ * NAVD_OK: agent->wish is no longer than agent->speed, and near the end the way to the goal; agent->left is how far the goal is, from the middle of a
+ * portal to that of the next; so many links as `link` says are behind it. NAVD_CUT: none of these links is one of the mesh that leaves the agent's
+ * polygon; look for a way anew. NAVD_OUT_OF_RANGE: before all others. NAVD_EMPTY. NAVD_NO_MEMORY. */
+uint32_t navd_view_lead(navd_view *view, navd_agent *agent, const navd_point *goal, const navd_link *links, size_t count, size_t *link);
 
 #ifdef __cplusplus
 }

@@ -27,7 +27,7 @@ WORLD = "include/navd_world.h"
 # Where the hosts name its calls, and how.
 WORLD_HOSTS = {"hosts/cpp/navd_world.hpp": r"\b(navd_(?:status|world|snapshot|route)_\w+)\(", "hosts/csharp/NavdWorld.cs": r"\bextern \w+ (navd_\w+)\(",
                "hosts/python/navd_world.py": r'"(navd_\w+)", \[', "hosts/rust/src/world_sys.rs": r"\bpub fn (navd_\w+)\("}
-CRATES = ("nav_ffi", "nav_handle", "way_handle", "place_handle", "place_way_handle", "wall_handle", "line_handle", "registry_handle", "kinds_handle", "mesh_handle",
+CRATES = ("nav_ffi", "nav_handle", "way_handle", "place_handle", "place_way_handle", "wall_handle", "line_handle", "crowd_handle", "registry_handle", "kinds_handle", "mesh_handle",
           "world_grid")
 LIBRARY = tuple(f"crates/{name}/src" for name in CRATES)
 C_TYPES = {"uint8_t": "u8", "uint32_t": "u32", "int32_t": "i32", "uint64_t": "u64", "int64_t": "i64", "size_t": "usize", "float": "f32",

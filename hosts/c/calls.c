@@ -52,7 +52,7 @@ static navd_level first, second, third, empty;
 static navd_view view, copy, empty_view;
 static navd_job jobs[3];
 static bool holds[3], is_built[3];
-static uint32_t entries, made_by[NAVD_ABOUT + 1];
+static uint32_t entries, made_by[NAVD_OVERLAPS + 1];
 static uint32_t alive[1024], alive_count;
 
 static bool is_block(const navd_block *b) {
@@ -461,9 +461,12 @@ static int64_t squared(navd_point a, navd_point b) {
     return x * x + z * z;
 }
 
+/* A number near another, round the end of its width too. */
+static int32_t near_to(int32_t number) { return (int32_t)((uint32_t)number + (uint32_t)pick(60) - 30u); }
+
 /* A straight walk and a slide from a place, which is one of the mesh or not. */
 static void of_moves(const navd_place *from, bool is_place) {
-    navd_point to = pick(3) ? (navd_point){from->at.x + (int32_t)pick(60) - 30, from->at.z + (int32_t)pick(60) - 30}
+    navd_point to = pick(3) ? (navd_point){near_to(from->at.x), near_to(from->at.z)}
                             : (navd_point){coordinate(), coordinate()};
     navd_ray ray = {.num = 7};
     navd_place end = {.y = 8192};
@@ -527,6 +530,86 @@ static void of_lines(void) {
     if (line.links && memcmp(&links[line.links - 1].to, &line.last, sizeof line.last)) ENDS(1, "where a line ends", 0);
 }
 
+/* The square of how far two agents are from each other. */
+static int64_t apart(const navd_agent *a, const navd_agent *b) {
+    int64_t x = (int64_t)b->at.x - a->at.x, z = (int64_t)b->at.z - a->at.z;
+    return x * x + z * z;
+}
+
+static navd_agent some_agent(void) {
+    navd_agent agent = {.at = {(int32_t)pick(1000) * 4, (int32_t)pick(1000) * 4}, .areas = pick(4) ? UINT64_MAX : ~(UINT64_C(1) << pick(64))};
+    agent.full = pick(40) ? 1 + pick(300) : 8190 + pick(4);
+    agent.radius = pick(40) ? 1 + pick(agent.full) : pick(2) ? 0 : agent.full + 1;
+    agent.speed = pick(40) ? pick(300) : 8190 + pick(4);
+    return agent;
+}
+
+static bool is_agent(const navd_agent *agent) {
+    return agent->radius >= 1 && agent->radius <= agent->full && agent->full <= 8191 && agent->speed <= 8191;
+}
+
+/* A crowd that is entered agent by agent and makes some steps: none goes farther than its speed, none is stranded, and those that do not overlap do not
+ * after a step. One whose numbers are out of their limits is refused. */
+static void of_crowds(void) {
+    navd_agent agents[6], was[6];
+    navd_fine moves[18];
+    uint32_t order[6];
+    size_t first_move[7], count = pick(7), entered = 0;
+    navd_crowd rules = {.sight = pick(30) ? 3072 : 16383 + pick(3), .hz = pick(30) ? 20 : pick(2) * 1001, .rounds = pick(30) ? 1 + pick(64) : pick(2) * 65};
+    bool are_rules = rules.sight <= 16384 && rules.hz >= 1 && rules.hz <= 1000 && rules.rounds >= 1 && rules.rounds <= 64;
+    for (size_t i = 0; i < count; i++) {
+        navd_agent agent = some_agent();
+        uint32_t status = navd_view_crowd_enter(&view, agents, entered, &agent, height());
+        if (is_agent(&agent)) ENDS(status, "navd_view_crowd_enter", NAVD_OK, NAVD_OVERLAPS, NAVD_NO_START);
+        else ENDS(status, "navd_view_crowd_enter", NAVD_OUT_OF_RANGE);
+        made_by[status]++;
+        if (status == NAVD_OK) agents[entered++] = agent;
+    }
+    for (uint32_t step = 0; step < 4; step++) {
+        for (size_t i = 0; i < 18; i++) moves[i] = (navd_fine){(int32_t)pick(401) - 200, (int32_t)pick(401) - 200};
+        for (size_t i = 0; i < entered; i++) order[i] = (uint32_t)((i + step) % entered);
+        for (size_t i = 0; i <= entered; i++) first_move[i] = 3 * i;
+        memcpy(was, agents, sizeof was);
+        size_t lists = pick(30) ? entered + 1 : entered;
+        uint32_t status = navd_view_crowd_grant(&view, &rules, agents, entered, order, entered, first_move, lists, moves, 3 * entered);
+        ENDS(status, "navd_view_crowd_grant", are_rules && lists == entered + 1 ? NAVD_OK : NAVD_OUT_OF_RANGE);
+        made_by[status]++;
+        for (size_t i = 0; i < entered; i++) {
+            if (agents[i].stranded) ENDS(1, "an agent that is stranded", 0);
+            if (apart(&was[i], &agents[i]) > (int64_t)agents[i].speed * agents[i].speed) ENDS(1, "how far an agent goes", 0);
+            for (size_t j = 0; j < i; j++) {
+                int64_t radii = (int64_t)agents[i].radius + agents[j].radius;
+                if (agents[i].low == agents[j].low && was[i].low == was[j].low && apart(&was[i], &was[j]) >= radii * radii
+                    && apart(&agents[i], &agents[j]) < radii * radii) ENDS(1, "two agents that overlap", 0);
+            }
+        }
+    }
+}
+
+/* Where a path leads an agent from its begin, over its links, and where it leads one that is elsewhere. */
+static void of_leads(void) {
+    static navd_link links[4096];
+    static navd_turn turns[4096];
+    navd_way way = {.from = {coordinate(), coordinate()}, .from_y = 10, .to = {coordinate(), coordinate()}, .to_y = 10};
+    navd_path path;
+    if (navd_view_find_path(&view, &way, links, 4096, turns, 4096, &path) != NAVD_OK || path.links > 4096) return;
+    navd_agent agent = some_agent();
+    agent.polygon = path.first;
+    agent.at = (navd_fine){16 * way.from.x, 16 * way.from.z};
+    size_t link = pick(9) ? 0 : pick(2) ? path.links : path.links + 1, was = link;
+    uint32_t status = navd_view_lead(&view, &agent, &way.to, links, path.links, &link);
+    if (!is_agent(&agent) || was > path.links) ENDS(status, "navd_view_lead", NAVD_OUT_OF_RANGE);
+    else ENDS(status, "navd_view_lead", NAVD_OK, was && path.links > 16 ? NAVD_CUT : NAVD_OK);
+    made_by[status]++;
+    if (link != (status == NAVD_OK ? 0 : was)) ENDS(1, "how many links are behind an agent", 0);
+    if (status != NAVD_OK) return;
+    int64_t x = agent.wish.x, z = agent.wish.z, speed = agent.speed;
+    if (x * x + z * z > speed * speed) ENDS(1, "a wish", 0);
+    if (!path.links && (agent.left == 0) != (way.from.x == way.to.x && way.from.z == way.to.z)) ENDS(1, "how far a goal is", 0);
+    agent.polygon = (navd_polygon){UINT32_MAX, 0};
+    ENDS(navd_view_lead(&view, &agent, &way.to, links, path.links, &link), "navd_view_lead elsewhere", NAVD_CUT);
+}
+
 /* Ways between places of what may be another mesh by now, and between those nearest to two points. */
 static void of_place_ways(void) {
     static navd_place from, to;
@@ -571,6 +654,8 @@ static void of_place_ways(void) {
         if (status == NAVD_OK && memcmp(corners, other_corners, near.found.corners * sizeof *corners)) ENDS(1, "its corners", 0);
     }
     of_lines();
+    of_crowds();
+    of_leads();
     of_moves(&from, is_from);
     of_walls(&from, is_from);
     navd_place drawn;

@@ -71,7 +71,7 @@ enum class [[nodiscard]] Status : uint32_t {
     no_start = NAVD_NO_START, no_goal = NAVD_NO_GOAL, no_path = NAVD_NO_PATH, wall = NAVD_WALL, no_room = NAVD_NO_ROOM,
     stale = NAVD_STALE, foreign = NAVD_FOREIGN, busy = NAVD_BUSY, too_many_spans = NAVD_TOO_MANY_SPANS,
     partial = NAVD_PARTIAL, limit = NAVD_LIMIT, cut = NAVD_CUT, no_place = NAVD_NO_PLACE,
-    no_obstacle = NAVD_NO_OBSTACLE, not_saved = NAVD_NOT_SAVED, about = NAVD_ABOUT, bad_struct = 23, // the last is of navd_world.h alone
+    no_obstacle = NAVD_NO_OBSTACLE, not_saved = NAVD_NOT_SAVED, about = NAVD_ABOUT, overlaps = NAVD_OVERLAPS, bad_struct = 23, // the last is of navd_world.h alone
 };
 
 // Whether the library has the version of the header: one that is loaded while the program runs may have another.
@@ -644,6 +644,21 @@ public:
     }
     Status walls(const navd_around &around, std::vector<navd_wall> &walls) {
         return detail::all(walls, [&](navd_wall *to, size_t *count) { return navd_view_walls(&handle, &around, to, *count, count); });
+    }
+    // One step of a crowd with wishes of the host's own: agent i is granted the first of moves[first[i]] to before moves[first[i + 1]] that is free, in
+    // the order of turns. `first` has one number more than there are agents.
+    Status crowd_grant(const navd_crowd &rules, std::vector<navd_agent> &agents, Array<uint32_t> order, Array<size_t> first,
+                       Array<navd_fine> moves) noexcept {
+        return Status{navd_view_crowd_grant(&handle, &rules, detail::address(agents.data()), agents.size(), detail::address(order.data()), order.size(),
+                                            detail::address(first.data()), first.size(), detail::address(moves.data()), moves.size())};
+    }
+    // Where an agent at a height stands beside others. After Status::overlaps it is told too: it may enter, and then comes no nearer to those.
+    Status crowd_enter(Array<navd_agent> agents, navd_agent &agent, uint32_t y) noexcept {
+        return Status{navd_view_crowd_enter(&handle, detail::address(agents.data()), agents.size(), &agent, y)};
+    }
+    // Where a kept path leads an agent: agent.wish and agent.left; `link` links are behind it. After Status::cut a way is to be looked for anew.
+    Status lead(navd_agent &agent, navd_point goal, Array<navd_link> links, size_t &link) noexcept {
+        return Status{navd_view_lead(&handle, &agent, &goal, detail::address(links.data()), links.size(), &link)};
     }
 
 private:

@@ -53,7 +53,8 @@ namespace Navd
         NoPlace = 22,
         NoObstacle = 24,
         NotSaved = 25,
-        About = 26
+        About = 26,
+        Overlaps = 27
     }
 
     // == The structs of include/navd.h, field for field ==
@@ -461,6 +462,35 @@ namespace Navd
         public ulong Areas;
     }
 
+    /// <summary>A point of the plane, or a vector, in 1/256 of a cell: sixteen to a unit of a Point.</summary>
+    [StructLayout(LayoutKind.Sequential)]
+    public struct Fine
+    {
+        public int X, Z;
+    }
+
+    /// <summary>An agent of a crowd, a disc. Where it is, the calls tell: the polygon that holds its middle, that polygon's floors, and whether none is known
+    /// (1). Radius is 1 to Full; Full and Speed, how far it may go in a step, are at most 8191, in 1/256 of a cell.</summary>
+    [StructLayout(LayoutKind.Sequential)]
+    public struct Agent
+    {
+        public Polygon Polygon;
+        public Fine At;
+        public uint Low, High, Stranded, Idle;
+        public ulong Areas, Left;
+        public uint Radius, Full, Speed, Unused;
+        public Fine Wish, Last, Meant;
+        public uint Waited, Tired;
+    }
+
+    /// <summary>How far the agents of a crowd see, at most 16384 in 1/256 of a cell, how many steps it makes a second, 1 to 1000, and in how many rounds moves
+    /// are granted, 1 to 64.</summary>
+    [StructLayout(LayoutKind.Sequential)]
+    public struct Crowd
+    {
+        public uint Sight, Hz, Rounds;
+    }
+
     /// <summary>A wall on an edge of a polygon, which lies to its left; Num / Den is the square of how far it is.</summary>
     [StructLayout(LayoutKind.Sequential)]
     public struct Wall
@@ -747,6 +777,13 @@ namespace Navd
         internal static extern Status navd_view_nearest_wall(ViewHandle view, ref Around around, ref Wall wall);
         [DllImport(Library)]
         internal static extern Status navd_view_walls(ViewHandle view, ref Around around, [Out] Wall[] walls, UIntPtr room, out UIntPtr count);
+        [DllImport(Library)]
+        internal static extern Status navd_view_crowd_grant(ViewHandle view, ref Crowd rules, [In][Out] Agent[] agents, UIntPtr count, uint[] order,
+            UIntPtr orderCount, UIntPtr[] first, UIntPtr firstCount, Fine[] moves, UIntPtr movesCount);
+        [DllImport(Library)]
+        internal static extern Status navd_view_crowd_enter(ViewHandle view, Agent[] agents, UIntPtr count, ref Agent agent, uint y);
+        [DllImport(Library)]
+        internal static extern Status navd_view_lead(ViewHandle view, ref Agent agent, ref Point goal, Link[] links, UIntPtr count, ref UIntPtr link);
     }
 
     /// <summary>The version, as major * 10000 + minor * 100 + patch: of this file, and of the library.</summary>
@@ -1541,6 +1578,34 @@ namespace Navd
             {
                 status = Native.navd_view_walls(view, ref around, walls.Items, walls.Length, out count);
             } while (!walls.Takes(status == Status.Ok, count));
+            return status;
+        }
+
+        /// <summary>One step of a crowd with wishes of the host's own: of moves, `counts` has how many are each agent's, which follow each other; an agent is
+        /// granted the first of its own that is free. Who stands earlier in `order` goes before others.</summary>
+        public Status CrowdGrant(Crowd rules, Agent[] agents, uint[] order, uint[] counts, Fine[] moves)
+        {
+            if (counts == null) throw new ArgumentNullException("counts");
+            var first = new UIntPtr[counts.Length + 1];
+            for (int i = 0; i < counts.Length; i++) first[i + 1] = (UIntPtr)((ulong)first[i] + counts[i]);
+            return Native.navd_view_crowd_grant(view, ref rules, Given.Items(agents, "agents"), Given.Length(agents), Given.Items(order, "order"),
+                Given.Length(order), first, Given.Length(first), Given.Items(moves, "moves"), Given.Length(moves));
+        }
+
+        /// <summary>Where an agent at a height stands beside others. After Status.Overlaps it is told too: it may enter, and then comes no nearer to
+        /// those.</summary>
+        public Status CrowdEnter(Agent[] agents, ref Agent agent, uint y)
+        {
+            return Native.navd_view_crowd_enter(view, Given.Items(agents, "agents"), Given.Length(agents), ref agent, y);
+        }
+
+        /// <summary>Where the links of a path lead an agent: its Wish and what is Left; so many as `link` says are then behind it. After Status.Cut a way is to
+        /// be looked for anew.</summary>
+        public Status Lead(ref Agent agent, Point goal, Room<Link> links, ref uint link)
+        {
+            var passed = (UIntPtr)link;
+            Status status = Native.navd_view_lead(view, ref agent, ref goal, links.Items, (UIntPtr)(uint)links.Count, ref passed);
+            link = (uint)passed;
             return status;
         }
 

@@ -22,6 +22,7 @@ OK, NO_MEMORY, EMPTY, FAULTY, OUT_OF_RANGE, TOO_MANY, DEAD, HISTORY_FULL, NOT_YE
 NO_OBSTACLE = 24
 NOT_SAVED = 25
 ABOUT = 26
+OVERLAPS = 27
 
 # The version of the library that this file was written for, as major * 10000 + minor * 100 + patch.
 VERSION = 100
@@ -29,7 +30,7 @@ VERSION = 100
 NAMES = ("ok", "no memory", "empty handle", "faulty text", "number out of range", "too many obstacles", "no such obstacle", "history full",
          "a tile is awaited", "same as before", "no start", "no goal", "no path", "wall", "no room", "the build is wanted no more",
          "the job is of another ground", "the handle holds a job", "too many spans", "a way to the nearest place", "limit", "cut", "no place",
-         "unknown", "no obstacle with this id", "no save wrote these bytes")
+         "unknown", "no obstacle with this id", "no save wrote these bytes", "a line may be shorter", "an agent overlaps another one")
 
 # All areas, as a filter's.
 all_areas = 2**64 - 1
@@ -242,6 +243,20 @@ class _Around(Structure):
 
 class _Wall(Structure):
     _fields_ = [("polygon", _Polygon), ("begin", _Point), ("end", _Point), ("num", c_uint64), ("den", c_uint64), ("edge", c_uint32)]
+
+
+class _Fine(Structure):
+    _fields_ = [("x", c_int32), ("z", c_int32)]
+
+
+class _Agent(Structure):
+    _fields_ = [("polygon", _Polygon), ("at", _Fine), ("low", c_uint32), ("high", c_uint32), ("stranded", c_uint32), ("idle", c_uint32), ("areas", c_uint64),
+                ("left", c_uint64), ("radius", c_uint32), ("full", c_uint32), ("speed", c_uint32), ("unused", c_uint32), ("wish", _Fine), ("last", _Fine),
+                ("meant", _Fine), ("waited", c_uint32), ("tired", c_uint32)]
+
+
+class _Crowd(Structure):
+    _fields_ = [("sight", c_uint32), ("hz", c_uint32), ("rounds", c_uint32)]
 
 
 class _FoundWay(Structure):
@@ -678,6 +693,10 @@ def _library():
         "navd_view_slide": [handle, POINTER(_Place), POINTER(_Point), c_uint64, POINTER(_Place)],
         "navd_view_nearest_wall": [handle, POINTER(_Around), POINTER(_Wall)],
         "navd_view_walls": [handle, POINTER(_Around), POINTER(_Wall), c_size_t, POINTER(c_size_t)],
+        "navd_view_crowd_grant": [handle, POINTER(_Crowd), POINTER(_Agent), c_size_t, POINTER(c_uint32), c_size_t, POINTER(c_size_t), c_size_t,
+                                  POINTER(_Fine), c_size_t],
+        "navd_view_crowd_enter": [handle, POINTER(_Agent), c_size_t, POINTER(_Agent), c_uint32],
+        "navd_view_lead": [handle, POINTER(_Agent), POINTER(_Point), POINTER(_Link), c_size_t, POINTER(c_size_t)],
     }.items():
         call = getattr(found, name)
         call.argtypes, call.restype = words, c_uint32
@@ -773,6 +792,12 @@ def _is_there(status):
     if status not in (OK, NO_PLACE):
         raise NavdError(status)
     return status == OK
+
+
+def agent_at(x, z, radius, speed, areas=all_areas):
+    """An agent of a crowd: its middle, radius, and how far it may go in a step, in 1/256 of a cell, 16 to a unit of a Place. Its fields are those of
+    navd_agent in include/navd.h."""
+    return _Agent(at=_Fine(x, z), areas=areas, radius=radius, full=radius, speed=speed)
 
 
 def _array(kind, items):
@@ -1436,6 +1461,40 @@ class View(_Asked):
             if end.status == NO_START:
                 return NoPath(NO_START)
             raise
+
+    def enter(self, agent, y, others=()):
+        """Whether an agent of a crowd (`agent_at`) at a height overlaps none of some others, or a NoPath, where no polygon holds it. Where it stands is told
+        in the agent. One that overlaps another may enter all the same, and then comes no nearer to that one."""
+        status = self._calls.navd_view_crowd_enter(byref(self._handle), _array(_Agent, others), len(others), byref(agent), y)
+        if status == NO_START:
+            return NoPath(status)
+        if status not in (OK, OVERLAPS):
+            raise NavdError(status)
+        return status == OK
+
+    def grant(self, agents, moves, order=None, sight=3072, hz=20, rounds=8):
+        """The agents of a crowd after a step with wishes of the host's own: for each agent a list of vectors in 1/256 of a cell, the best first, of which it
+        is granted the first that is free. Who stands earlier in `order` goes before others."""
+        told, first = _array(_Agent, agents), [0]
+        order = range(len(agents)) if order is None else order
+        for wished in moves:
+            first.append(first[-1] + len(wished))
+        given = [_Fine(*move) for wished in moves for move in wished]
+        status = self._calls.navd_view_crowd_grant(byref(self._handle), byref(_Crowd(sight, hz, rounds)), told, len(agents), _array(c_uint32, order),
+                                                   len(order), _array(c_size_t, first), len(first), _array(_Fine, given), len(given))
+        if status:
+            raise NavdError(status)
+        return told[:len(agents)]
+
+    def lead(self, agent, goal, links, link=0):
+        """How many links of a kept path are behind an agent of a crowd, of which so many were before. By which vector it would like to go, and how far its
+        goal is, are told in the agent. None where its polygon is none of those near, and a way is to be looked for anew."""
+        passed = c_size_t(link)
+        status = self._calls.navd_view_lead(byref(self._handle), byref(agent), byref(_Point(goal.x, goal.z)), _array(_Link, [_link_of(it) for it in links]),
+                                            len(links), byref(passed))
+        if status not in (OK, CUT):
+            raise NavdError(status)
+        return None if status == CUT else passed.value
 
     def shown(self):
         """How many entries it shows, and how many tiles there are."""

@@ -4,7 +4,7 @@
 //! definition makes of it (`specs/Requests.antt`, `specs/Steps.antt`, `specs/Jobs.antt`, `specs/Renewing.antt`); a question leaves it as it
 //! was, and its status, its counts and what it leaves in the host's arrays are those of an answer that is right in the published mesh, or what
 //! there is to draw: the definitions stand in `nav_handle` with what crosses the border (`specs/Answers.antt`, `specs/Hopping.antt`,
-//! `specs/Walking.antt`, `specs/Looking.antt` there), and in `specs/` of `way_handle`, `place_handle`, `place_way_handle`, `wall_handle` and `line_handle`. How levels
+//! `specs/Walking.antt`, `specs/Looking.antt` there), and in `specs/` of `way_handle`, `place_handle`, `place_way_handle`, `wall_handle`, `line_handle` and `crowd_handle`. How levels
 //! are opened stands in `specs/Opening.antt`, `specs/Triangles.antt` and `specs/Meshes.antt`, what views show in `specs/Viewing.antt`,
 //! `specs/Registries.antt` and `specs/KindViews.antt`, what the calls of a registry make of it in `registry_handle/specs`, its jobs in
 //! `specs/Claims.antt`, what those of kinds do in `kinds_handle/specs`, which tiles changed in `specs/Changing.antt`, the version in
@@ -14,6 +14,7 @@
 mod between;
 mod changes;
 mod claims;
+mod crowds;
 mod goals;
 mod jobs;
 pub mod kind_jobs;
@@ -38,6 +39,7 @@ pub use changes::navd_changed_tiles;
 pub use claims::{
     navd_registry_claim, navd_registry_put_back, navd_registry_put_back_all, navd_registry_submit,
 };
+pub use crowds::{navd_view_crowd_enter, navd_view_crowd_grant, navd_view_lead};
 pub use goals::{navd_view_follow_path, navd_view_nearest_goal};
 pub use jobs::{
     navd_aim, navd_build, navd_claim, navd_job_close, navd_publish, navd_put_back,

@@ -195,7 +195,7 @@ fn is_at(agent: &CrowdAgent, spot: Spot) -> bool {
 }
 
 /// Whether all have sizes that may be asked.
-fn are_sized(agents: &[CrowdAgent]) -> bool
+pub(crate) fn are_sized(agents: &[CrowdAgent]) -> bool
     ensures { IsTrue result → All HasSizes agents.now }
 {
     for i in 0..agents.len() {

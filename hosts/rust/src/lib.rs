@@ -12,6 +12,7 @@
 //! # Ok(())
 //! # }
 //! ```
+mod crowds;
 mod goals;
 mod heap;
 mod jobs;
@@ -30,6 +31,7 @@ mod world_sys;
 
 use std::fmt;
 use std::ptr::null_mut;
+pub use crowds::Entered;
 pub use goals::{Followed, Follower, Found, Nearest};
 pub use jobs::Job;
 pub use kinds::{Kinds, Publish};
@@ -40,7 +42,7 @@ pub use places::{Drawn, MeshPlace, Near};
 pub use registry::{Registry, Row, Solid, Updated};
 pub use repairs::{Repair, Repaired};
 pub use sys::{
-    Block, Corner, Counts, Cylinder, Disc, Face, Floor, Ground, Jump, Kind, Link, Point, Polygon, Prism, Reached, Shown,
+    Agent, Block, Corner, Counts, Crowd, Cylinder, Disc, Face, Fine, Floor, Ground, Jump, Kind, Link, Point, Polygon, Prism, Reached, Shown,
     Span, Turn, Wall,
 };
 pub use walks::{Hop, Step, Walker};

@@ -29,6 +29,7 @@ pub const LIMIT: u32 = 20;
 pub const CUT: u32 = 21;
 pub const NO_PLACE: u32 = 22;
 pub const ABOUT: u32 = 26;
+pub const OVERLAPS: u32 = 27;
 pub const NO_OBSTACLE: u32 = 24;
 pub const NOT_SAVED: u32 = 25;
 
@@ -512,6 +513,54 @@ pub struct Line {
     pub turns: usize,
 }
 
+/// A point of the plane, or a vector, in 1/256 of a cell: sixteen to a unit of a [`Point`].
+#[repr(C)]
+#[derive(Clone, Copy, Default, Debug, PartialEq, Eq)]
+pub struct Fine {
+    pub x: i32,
+    pub z: i32,
+}
+
+/// An agent of a crowd, a disc. Where it is, the calls tell: the polygon that holds its middle, that polygon's floors, and whether none is known (1).
+#[repr(C)]
+#[derive(Clone, Copy, Default, Debug, PartialEq, Eq)]
+pub struct Agent {
+    pub polygon: Polygon,
+    pub at: Fine,
+    pub low: u32,
+    pub high: u32,
+    pub stranded: u32,
+    /// 1: it makes room for all others.
+    pub idle: u32,
+    /// Bit a: area a may be entered.
+    pub areas: u64,
+    /// How far its goal is.
+    pub left: u64,
+    /// 1 to `full`, in 1/256 of a cell.
+    pub radius: u32,
+    /// At most 8191.
+    pub full: u32,
+    /// How far it may go in a step, at most 8191.
+    pub speed: u32,
+    pub unused: u32,
+    /// By which vector it would like to go.
+    pub wish: Fine,
+    pub last: Fine,
+    pub meant: Fine,
+    pub waited: u32,
+    pub tired: u32,
+}
+
+/// How far the agents of a crowd see, at most 16384 in 1/256 of a cell, how many steps it makes a second, 1 to 1000, and in how many rounds moves are
+/// granted, 1 to 64.
+#[repr(C)]
+#[derive(Clone, Copy, Default, Debug, PartialEq, Eq)]
+pub struct Crowd {
+    pub sight: u32,
+    pub hz: u32,
+    pub rounds: u32,
+}
+
 /// A wall on an edge of a polygon, which lies to its left; num / den is the square of how far it is, in sixteenths of a cell.
 #[repr(C)]
 #[derive(Clone, Copy, Default, Debug, PartialEq, Eq)]
@@ -818,4 +867,18 @@ extern "C" {
     pub fn navd_view_slide(view: *mut Handle, from: *const Place, to: *const Point, areas: u64, end: *mut Place) -> u32;
     pub fn navd_view_nearest_wall(view: *mut Handle, around: *const Around, wall: *mut Wall) -> u32;
     pub fn navd_view_walls(view: *mut Handle, around: *const Around, walls: *mut Wall, room: usize, count: *mut usize) -> u32;
+    pub fn navd_view_crowd_grant(
+        view: *mut Handle,
+        rules: *const Crowd,
+        agents: *mut Agent,
+        count: usize,
+        order: *const u32,
+        order_count: usize,
+        first: *const usize,
+        first_count: usize,
+        moves: *const Fine,
+        moves_count: usize,
+    ) -> u32;
+    pub fn navd_view_crowd_enter(view: *mut Handle, agents: *const Agent, count: usize, agent: *mut Agent, y: u32) -> u32;
+    pub fn navd_view_lead(view: *mut Handle, agent: *mut Agent, goal: *const Point, links: *const Link, count: usize, link: *mut usize) -> u32;
 }

@@ -1,7 +1,7 @@
 //! A level that is opened, changed, drawn and asked, with a crate across its room.
 use navd::{
-    place, version, Block, Checked, Disc, Drawn, Error, Filter, FoundWay, Jump, Level, Limits, Near, NoWay, Planned, Point, Prism, Ray,
-    Registry, Repair, Repaired, Row, Shape, Solid, VERSION, View,
+    place, version, Agent, Block, Checked, Crowd, Disc, Drawn, Entered, Error, Filter, Fine, FoundWay, Jump, Level, Limits, Near, NoWay, Planned, Point,
+    Prism, Ray, Registry, Repair, Repaired, Row, Shape, Solid, VERSION, View,
 };
 use std::thread;
 
@@ -73,6 +73,27 @@ fn views_and_jobs_go_to_other_threads() {
     view.look(&mut level).unwrap();
     let after = view.find_path(place(40, 40, 10), place(40, 120, 10)).unwrap().unwrap().cost;
     assert!(before < after && after == 7 * own);
+}
+
+#[test]
+fn agents_of_a_crowd_keep_apart() {
+    let (from, to) = (place(40, 40, 10), place(40, 120, 10));
+    let mut view = View::of(&mut Level::open(TEXT).unwrap()).unwrap();
+    let links = view.find_path(from, to).unwrap().unwrap().links;
+    let at = |p: Point| Agent { at: Fine { x: 16 * p.x, z: 16 * p.z }, areas: u64::MAX, radius: 100, full: 100, speed: 64, ..Agent::default() };
+    let (mut walker, mut waiter, mut near) = (at(from.at), at(to.at), at(Point { x: 41, z: 40 }));
+    assert_eq!(view.crowd_enter(&[], &mut walker, 10), Ok(Entered::Free));
+    assert_eq!(view.crowd_enter(&[walker], &mut waiter, 10), Ok(Entered::Free));
+    assert_eq!(view.crowd_enter(&[walker, waiter], &mut near, 10), Ok(Entered::Overlaps));
+    let (rules, mut agents, mut link) = (Crowd { sight: 3072, hz: 20, rounds: 8 }, [walker, waiter], 0);
+    for _ in 0..40 {
+        assert_eq!(view.lead(&mut agents[0], to.at, &links, &mut link), Ok(true));
+        let moves = [agents[0].wish];
+        view.crowd_grant(rules, &mut agents, &[0, 1], &[0, 1, 1], &moves).unwrap();
+    }
+    // 16 steps of 64; one more would come nearer than both radii.
+    assert_eq!((agents[0].at, agents[1].at), (Fine { x: 640, z: 1664 }, Fine { x: 640, z: 1920 }));
+    assert_eq!(view.crowd_grant(rules, &mut agents, &[], &[0], &[]), Err(Error::OutOfRange));
 }
 
 #[test]

@@ -1,0 +1,5 @@
+pub mod Statuses
+pub mod Agents
+pub mod Granting
+pub mod Entering
+pub mod Leading

@@ -1,0 +1,4 @@
+mod ListLaws
+mod OrderLaws
+mod PlacedLaws
+mod WholeLaws

@@ -1,0 +1,3 @@
+pub mod Steered
+pub mod Orders
+pub mod Lists

@@ -1,0 +1,31 @@
+//! One step of a crowd that steers itself.
+//!
+//! `crowd_step` makes of each agent's wish a list of moves, the best first, and has `crowd_filter` grant them. So the laws of that filter hold whatever
+//! the steering does: who is apart stays apart, who overlaps comes no nearer, each goes on the mesh and no farther than its speed. Besides, an agent
+//! that sees nobody goes as it wishes, if the mesh lets it.
+//!
+//! The steering itself promises nothing. Each agent looks at the eight nearest of its storey. Of two the one with less way left goes before the
+//! other; who stands in another's wish goes just before that one, so that it makes way; who led and waited long lets others go first for a while. A
+//! wish that breaks no half plane of those that go before is the list, with shorter ones. Else many moves are tried, and those that are better than
+//! standing are the list: by the half planes that they break, and how far they are from the wish and from the last move.
+//!
+//! Points, radii and speeds are in fine units, 1/256 of a cell; speeds are by step.
+#![tactic(auto)]
+
+mod choosing;
+mod fan;
+mod footing;
+mod intents;
+mod memory;
+mod order;
+mod placed;
+mod planes;
+mod ranks;
+mod sights;
+mod steering;
+mod steps;
+mod vectors;
+mod walkers;
+
+pub use steering::{CrowdRules, Steering};
+pub use steps::crowd_step;

@@ -1,0 +1,46 @@
+//! What agents remember of a step.
+
+use crate::steering::{CrowdRules, Steering};
+use crate::vectors::{Vector, dot, minus, point_of, square, vector_of};
+use crowd_moves::CrowdAgent;
+use nav_base::Point;
+
+/// What an agent thought when it chose.
+#[derive(Clone, Copy)]
+pub(crate) struct Thought {
+    /// The move that it would have liked best, of those that the mesh lets it make.
+    pub(crate) meant: Vector,
+    /// Nobody that it looks at goes before it.
+    pub(crate) leads: bool,
+}
+
+/// After how many seconds of waiting one that leads is tired, and for how many seconds.
+const PATIENCE: u32 = 3;
+
+const REST: u32 = 2;
+
+/// An agent's steering after a step.
+pub(crate) fn remembered(
+    rules: CrowdRules,
+    from: Point,
+    agent: &CrowdAgent,
+    thought: Thought,
+    had: Steering,
+) -> Steering {
+    let made = minus(vector_of(agent.at), vector_of(from));
+    let mut own = had;
+    own.last = point_of(made);
+    own.meant = point_of(thought.meant);
+    let creep = square(i64::from(agent.speed / 8));
+    own.waited = if own.idle || dot(made, made) > creep {
+        0
+    } else {
+        own.waited.saturating_add(1)
+    };
+    own.tired = own.tired.saturating_sub(1);
+    if had.tired == 0 && thought.leads && own.waited >= rules.hz.saturating_mul(PATIENCE) {
+        own.tired = rules.hz.saturating_mul(REST);
+        own.waited = 0;
+    }
+    own
+}
