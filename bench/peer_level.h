@@ -85,7 +85,7 @@ struct Level {
     std::vector<Layer> layers;
     std::vector<std::vector<Span>> rows;
 
-    Level(const Field& f, float u) : field(f), unit(u), rows(f.depth) {
+    Level(const Field& f, float u, int obstacles = 1) : field(f), unit(u), rows(f.depth) {
         for (const Span& s : field.spans) rows[s.z].push_back(s);
         for (int z = 0; z * field.tile < field.depth; z++)
             for (int x = 0; x * field.tile < field.width; x++) cut(x, z);
@@ -93,7 +93,7 @@ struct Level {
         c.cs = 1, c.ch = unit, c.width = c.height = field.tile;
         c.walkableHeight = field.height * unit, c.walkableRadius = field.radius, c.walkableClimb = field.climb * unit;
         c.maxSimplificationError = std::sqrt(field.error / 100.0f);
-        c.maxTiles = std::max<int>(1, layers.size()), c.maxObstacles = 1;
+        c.maxTiles = std::max<int>(1, layers.size()), c.maxObstacles = obstacles;
         must(!dtStatusFailed(cache->init(&c, &room, &copier, &flags)), "dtTileCache::init");
         dtNavMeshParams n{};
         n.tileWidth = n.tileHeight = field.tile;

@@ -1,6 +1,7 @@
 """What the checks of the library share: the library that one is about, by the host in Python, and how many random levels it looks at, from which seed on,
 which are the words behind its name; and the random levels."""
 import contextlib
+import functools
 import io
 import os
 import random
@@ -19,8 +20,19 @@ def host_and_levels(usage, most):
     os.environ["NAVD_LIBRARY"] = str(Path(sys.argv[1]).resolve())
     sys.path.insert(0, str(TOP / "hosts" / "python"))
     import navd
+    navd._library = functools.cache(navd._library)  # the host looks it up for each level and view, which takes milliseconds
     levels, first_seed = [int(word) for word in sys.argv[2:4]] + [most, 1][len(sys.argv[2:4]):]
     return navd, levels, first_seed
+
+
+def processes():
+    """How many processes share the levels: the number behind `--jobs`, which is taken out of the words, or one."""
+    if "--jobs" not in sys.argv:
+        return 1
+    place = sys.argv.index("--jobs")
+    number = int(sys.argv[place + 1])
+    del sys.argv[place:place + 2]
+    return number
 
 
 def refuser(navd):
