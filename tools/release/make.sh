@@ -44,6 +44,7 @@ make_shared() {
     # one copy of functions that are alike, where there is a linker that finds them
     folds=
     ! command -v "${tools}ld.gold" >"$work/tool" || folds="-fuse-ld=gold -Wl,--icf=safe"
+    ! command -v ld.lld >"$work/tool" || folds="-fuse-ld=lld -Wl,--icf=safe"
     python3 "$parts/exports.py" script >"$1/exports.map"
     "$cc" -shared $folds -o "$1/lib/whole.so" -Wl,--whole-archive "$1/lib/libnavd.a" -Wl,--no-whole-archive -Wl,-soname,$soname \
         -Wl,--version-script="$1/exports.map" -Wl,-z,relro,-z,now,-z,noexecstack,-z,defs,-z,text -Wl,--gc-sections,--as-needed,--build-id=sha1 \
