@@ -10,8 +10,17 @@ use Rattle.nav_ground.specs.declared.cell.ColumnCells.{ColumnCells}
 use Rattle.nav_ground.specs.declared.free_layer.CellMark.{CellMark}
 use Rattle.nav_ground.specs.CellColumns.{is_in_column}
 use Rattle.nav_ground.specs.ColumnParts.{IsPartOf}
-use Rattle.nav_ground.specs.Marks.{cell_left, cells_left, marked_cell}
+use Rattle.nav_ground.specs.Marks.{cell_left, cells_left, levels_left, marked_cell}
 use Rattle.nav_ground.proofs.ColumnParts.{part_early, part_inside, part_late}
+
+-- a mark with all of four bits keeps all of a cell's levels
+pub all_levels : (levels : List (Option ℕ)) → length levels ≡ 4 → levels_left 15 levels ≡ levels
+all_levels (a ∷ b ∷ c ∷ d ∷ []) four = refl
+all_levels [] four = absurd (omega (arith, four))
+all_levels (a ∷ []) four = absurd (omega (arith, four))
+all_levels (a ∷ b ∷ []) four = absurd (omega (arith, four))
+all_levels (a ∷ b ∷ c ∷ []) four = absurd (omega (arith, four))
+all_levels (a ∷ b ∷ c ∷ d ∷ e ∷ more) four = absurd (omega (arith, four))
 
 -- an element in front of two lists
 cons_more : (option : Option Cell) (xs ys : List Cell) → cons_option option (xs ++ ys) ≡ cons_option option xs ++ ys

@@ -1,7 +1,7 @@
 //! The free cells of a tile as its mesh keeps them. Marks beside the cells of a layer. The free cells of a tile as marks beside the cells
 //! of its layer.
 
-ghost use Rattle.std.specs.Prelude.{◌≡◌, IfOk, IsTrue, filter, ◌≤◌, ◌++◌, [], length, take, IfSome};
+ghost use Rattle.std.specs.Prelude.{◌≡◌, ◌≢◌, IfOk, IsTrue, filter, ◌+◌, ◌<◌, ◌≤◌, ◌++◌, ◌∷◌, [], length, take, IfSome};
 ghost use Rattle.nav_ground.specs.CellColumns.{AreOrdered, is_in_column};
 ghost use Rattle.std.specs.List.{cons_option};
 ghost use Rattle.nav_ground.specs.Marks.{AreLeft, cell_left, cells_left};
@@ -265,17 +265,52 @@ fn marks_of(
     let mut marks = Vec::with_capacity(alloc, cells.len())?;
     let mut passed = 0;
     for cell in cells {
-        let mark = mark_of(cell, free.get(passed));
-        match pass(cell, mark, free, passed) {
-            Some(next) => passed = next,
-            None => return Ok(None),
-        }
-        marks.push(mark)?;
+        let Some(next) = next_mark(cell, free, passed) else {
+            return Ok(None);
+        };
+        passed = next.passed;
+        marks.push(next.mark)?;
     }
     if passed < free.len() {
         return Ok(None);
     }
     Ok(Some(marks))
+}
+
+/// The mark of a cell, and how many free cells are passed with it.
+#[derive(Clone, Copy)]
+struct NextMark {
+    mark: CellMark,
+    passed: usize,
+}
+
+/// The mark of a cell beside free cells of which so many are passed; none where no mark leaves the next of them.
+fn next_mark(cell: &PackedCell, free: &[PackedCell], passed: usize) -> Option<NextMark>
+    requires { passed ≤ length free.now }
+    ensures within { IfSome result (λ next. next.passed ≤ length free.now) }
+    ensures left { IfSome result (λ next. take next.passed free.now ≡ take passed free.now ++ cons_option (cell_left next.mark cell.now) []) }
+{
+    if is_next(cell, free, passed) {
+        return Some(NextMark {
+            mark: cell.whole_mark(),
+            passed: passed + 1,
+        });
+    }
+    let mark = mark_of(cell, free.get(passed));
+    let passed = pass(cell, mark, free, passed)?;
+    Some(NextMark { mark, passed })
+}
+
+/// Whether the next free cell is the cell as it is, as nearly all are. Then no bits are to be made.
+fn is_next(cell: &PackedCell, free: &[PackedCell], passed: usize) -> bool
+    ensures within { IsTrue result → passed < length free.now }
+    ensures area { IsTrue result → cell.now.area ≢ 0 }
+    ensures next { IsTrue result → take (passed + 1) free.now ≡ take passed free.now ++ cell.now ∷ [] }
+{
+    match free.get(passed) {
+        Some(next) => cell.area() != 0 && cell.is(next),
+        None => false,
+    }
 }
 
 /// The mark of a cell where the next free cell is known: it stands for that one if both have the same place, else for no cell.

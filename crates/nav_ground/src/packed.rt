@@ -148,6 +148,16 @@ impl PackedCell {
         }
     }
 
+    /// A mark with the cell's area, which keeps all of its levels.
+    pub(crate) fn whole_mark(&self) -> CellMark
+        ensures { marked_cell result self.now ≡ self.now }
+    {
+        CellMark {
+            area: self.area,
+            sides: 15,
+        }
+    }
+
     /// The cell with a mark's area and those of its levels that the mark keeps.
     pub(crate) fn marked(&self, mark: CellMark) -> PackedCell
         ensures { result ≡ marked_cell mark self.now }

@@ -131,6 +131,7 @@ passed_on places passed a b later before = record {
   above = passed_later places passed.above _ _ (omega (arith, later)) before.above;
   right = passed_later places passed.right _ _ (omega (arith, later)) before.right;
   below = passed_later places passed.below _ _ (omega (arith, later)) before.below;
+  clear = λ column from. before.clear column (omega (arith, later, from));
 }
 
 -- at first nothing is passed
@@ -138,7 +139,7 @@ pub none_passed_yet : (places : List CellRef) (column : ℕ) → IsPassed places
 none_passed_yet places column = record { most = omega arith; before = λ k d below. absurd (omega arith) }
 
 pub all_unpassed : (places : List CellRef) (passed : PassedPlaces) (at : CellRef)
-    → passed ≡ record { left = 0; above = 0; right = 0; below = 0 } → ArePassed places passed at
+    → passed ≡ record { left = 0; above = 0; right = 0; below = 0; clear_before = 0 } → ArePassed places passed at
 all_unpassed places passed at is =
     let P : PassedPlaces → Type 0 = λ (p : PassedPlaces). ArePassed places p at in
     subst P (sym is) (record {
@@ -146,6 +147,7 @@ all_unpassed places passed at is =
       above = none_passed_yet places _;
       right = none_passed_yet places _;
       below = none_passed_yet places _;
+      clear = λ column from small. absurd (omega (arith, small));
     })
 
 -- once the neighbours of one cell are looked up, what is passed is passed before those of each later cell

@@ -1,5 +1,5 @@
 -- Places by the numbers of their columns, and rows of columns.
-use Rattle.std.specs.Prelude.{◌≡◌, ℕ, ◌+◌, ◌<◌, ◌≤◌, ◌⊎◌, ◌==◌, nat_lt, Bool, ◌&&◌, ◌||◌, List, length, All, slice_index_or}
+use Rattle.std.specs.Prelude.{◌≡◌, ℕ, ◌+◌, ◌-◌, ◌<◌, ◌≤◌, ◌==◌, nat_lt, Bool, ◌&&◌, ◌||◌, List, length, All, slice_index_or}
 use Rattle.std.specs.List.Sorted.{IsNonDecreasingBy}
 use Rattle.nav_ground.specs.declared.cell.CellRef.{CellRef}
 use Rattle.cell_table.specs.Columns.{IsPlace, column_of}
@@ -14,15 +14,12 @@ pub record IsPassed (places : List CellRef) (n column : ℕ) : Type 0 where
   pub most : n ≤ length places
   pub before : (k : ℕ) (d : CellRef) → k < n → column_of (slice_index_or places k d) < column
 
--- a place comes more than a row of columns before a column, or behind it; so it is in none of the columns beside that one
-abbrev pub LiesBefore : ℕ → CellRef → Type 0
-LiesBefore column at = column_of at + 2048 < column
-
-abbrev pub LiesBehind : ℕ → CellRef → Type 0
-LiesBehind column at = column + 2048 < column_of at
-
-abbrev pub LiesAway : ℕ → CellRef → Type 0
-LiesAway column at = LiesBefore column at ⊎ LiesBehind column at
+-- a place lies in none of the four columns beside a column
+pub record LiesApart (column : ℕ) (at : CellRef) : Type 0 where
+  pub left : column_of at ≡ column - 1 → ⊥
+  pub above : column_of at ≡ column + 2048 → ⊥
+  pub right : column_of at ≡ column + 1 → ⊥
+  pub below : column_of at ≡ column - 2048 → ⊥
 
 -- a place comes before a column, in the order of cells: by z, then by x
 abbrev pub is_before : ℕ → ℕ → CellRef → Bool

@@ -18,7 +18,7 @@ ghost use Rattle.obstacle_mark.specs.Columns.{ArePlaces};
 ghost use Rattle.obstacle_mark.specs.Places.{places_taken, next_kept, ArePassed};
 
 use crate::areas::areas_left;
-use crate::places::{PassedPlaces, are_away, blocked_places, is_there, next_kept, pass};
+use crate::places::{PassedPlaces, blocked_places, is_clear, is_there, next_kept, pass};
 use agent_erode::kept;
 use cell_table::column_of;
 use nav_ground::{Cell, CellRef, FreeLayer, Layer, PackedCell, Shape, Window};
@@ -106,6 +106,7 @@ fn free_cells(
         above: 0,
         right: 0,
         below: 0,
+        clear_before: 0,
     };
     let mut free = Vec::with_capacity(alloc, cells.len() - blocked.len())?;
     for (i, cell) in cells.iter().enumerate() {
@@ -116,8 +117,8 @@ fn free_cells(
     Ok(free)
 }
 
-/// A free cell with the area that it is left with: the cell of the layer as it is where its area stays and all blocked places lie away
-/// from it, else without those neighbours that are among them.
+/// A free cell with the area that it is left with: the cell of the layer as it is where its area stays and no blocked place lies in a
+/// column beside its own, else without those neighbours that are blocked.
 fn free_cell(
     blocked: &[CellRef],
     passed: &mut PassedPlaces,
@@ -131,7 +132,7 @@ fn free_cell(
     ensures cell { result ≡ record cell.now { area = area; next = next_kept blocked.now cell.now } }
     ensures passed { ArePassed blocked.now passed.new cell.now.at }
 {
-    if area == cell.area() && are_away(blocked, column_of(cell.at())) {
+    if area == cell.area() && is_clear(blocked, passed, cell.at()) {
         return *cell;
     }
     let next = next_kept(blocked, passed, cell);

@@ -7,7 +7,7 @@ ghost use Rattle.nav_ground.specs.declared.shape.Shape.{Shape};
 ghost use Rattle.nav_ground.specs.Directions.{number};
 ghost use Rattle.obstacle_mark.specs.AreasLeft.{area_left};
 ghost use Rattle.cell_table.specs.Columns.{IsPlace, column_of, column_toward};
-ghost use Rattle.obstacle_mark.specs.Columns.{ArePlaces, IsPassed, LiesAway, LiesBefore, LiesBehind};
+ghost use Rattle.obstacle_mark.specs.Columns.{ArePlaces, IsPassed, LiesApart};
 ghost use Rattle.obstacle_mark.specs.Places.{places_taken, level_kept, ArePassed};
 
 use cell_table::{column_of, column_toward};
@@ -15,13 +15,15 @@ use nav_ground::{CellRef, Direction, PackedCell};
 use std::alloc::{AllocError, Global};
 
 /// How many of the taken places lie in columns before the neighbouring ones of a cell, direction by direction. As cells are gone
-/// through in order these numbers only rise, so all of them together pass each taken place once a direction.
+/// through in order these numbers only rise, so all of them together pass each taken place once a direction. Cells in columns before
+/// `clear_before` have no taken place in the columns beside theirs.
 #[derive(Clone, Copy)]
 pub struct PassedPlaces {
     pub left: usize,
     pub above: usize,
     pub right: usize,
     pub below: usize,
+    pub clear_before: u64,
 }
 
 /// The places of the cells that are left without an area, in order.
@@ -87,35 +89,58 @@ fn level_kept(
     }
 }
 
-/// Whether all of the places come more than a row of columns before a column, or all behind it; so where there are none.
-pub fn are_away(places: &[CellRef], column: u64) -> bool
-    requires places { ArePlaces places.now }
-    requires column { 2048 ≤ column }
-    ensures { IsTrue result → All (LiesAway column) places.now }
+/// Whether no taken place lies in one of the columns beside a cell's. The places are passed only where that is not known yet.
+pub fn is_clear(blocked: &[CellRef], passed: &mut PassedPlaces, at: CellRef) -> bool
+    requires at { IsPlace at }
+    requires blocked { ArePlaces blocked.now }
+    requires passed { ArePassed blocked.now passed.old at }
+    ensures clear { IsTrue result → All (LiesApart (column_of at)) blocked.now }
+    ensures passed { ArePassed blocked.now passed.new at }
 {
-    lie_before(places, column) || lie_behind(places, column)
-}
-
-/// Whether all of the places come more than a row of columns before a column.
-fn lie_before(places: &[CellRef], column: u64) -> bool
-    requires places { ArePlaces places.now }
-    requires column { 2048 ≤ column }
-    ensures { IsTrue result → All (LiesBefore column) places.now }
-{
-    match places.last() {
-        Some(last) => column_of(*last) < column - 2048,
-        None => true,
+    let column = column_of(at);
+    if column < passed.clear_before {
+        return true;
     }
+    pass_beside(blocked, passed, at);
+    column < passed.clear_before
 }
 
-/// Whether all of the places come more than a row of columns behind a column.
-fn lie_behind(places: &[CellRef], column: u64) -> bool
-    requires { ArePlaces places.now }
-    ensures { IsTrue result → All (LiesBehind column) places.now }
+/// Passes the taken places in columns before those beside a cell's, and finds the next column that has one beside it.
+fn pass_beside(blocked: &[CellRef], passed: &mut PassedPlaces, at: CellRef)
+    requires at { IsPlace at }
+    requires blocked { ArePlaces blocked.now }
+    requires passed { ArePassed blocked.now passed.old at }
+    ensures { ArePassed blocked.now passed.new at }
 {
-    match places.first() {
-        Some(first) => column < column_of(*first) - 2048,
-        None => true,
+    let column = column_of(at);
+    let left = pass(blocked, passed.left, column - 1);
+    let above = pass(blocked, passed.above, column + 2048);
+    let right = pass(blocked, passed.right, column + 1);
+    let below = pass(blocked, passed.below, column - 2048);
+    let before_row = (column_at(blocked, above) - 2048).min(column_at(blocked, right) - 1);
+    let after_row = (column_at(blocked, left) + 1).min(column_at(blocked, below) + 2048);
+    *passed = PassedPlaces {
+        left,
+        above,
+        right,
+        below,
+        clear_before: before_row.min(after_row),
+    };
+}
+
+/// A number above those of all columns.
+const NO_COLUMN: u64 = 4_294_967_296;
+
+/// The column of one of the places, or a number above all columns where there are no more.
+fn column_at(places: &[CellRef], i: usize) -> u64
+    requires { ArePlaces places.now }
+    ensures least { 2048 ≤ result }
+    ensures most { result ≤ 4294967296 }
+    ensures later { (k : ℕ) (d : CellRef) → i ≤ k → k < length places.now → result ≤ column_of (slice_index_or places.now k d) }
+{
+    match places.get(i) {
+        Some(at) => column_of(*at),
+        None => NO_COLUMN,
     }
 }
 

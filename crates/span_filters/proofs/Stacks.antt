@@ -1,9 +1,9 @@
 -- Gaps of spans that stand one above the other: which of them show nothing.
 use Rattle.std.proofs.Common.{◌≡◌, ℕ, ◌+◌, ◌<◌, ◌≤◌, Bool, true, false, length, List, [], ◌∷◌, ◌++◌, take, drop, get_or, ap, ◌∙◌, sym, refl, subst, Option, Some, None, arith, zero, suc, max, min}
-use Rattle.std.specs.Prelude.{⊤, All, AllPairs, IfSome, filter, if◌then◌else◌}
+use Rattle.std.specs.Prelude.{⊤, All, AllPairs, IfSome, filter, nat_le, if◌then◌else◌}
 use Rattle.std.specs.Option.{option_map_or}
-use Rattle.std.proofs.lemmas.Bool.{both_ways, leb-false, lt-leb, eqb-true}
-use Rattle.std.proofs.lemmas.List.{take-append-drop, get_or-take, length-take-le}
+use Rattle.std.proofs.lemmas.Bool.{lt-leb, le-ltb, eqb-true}
+use Rattle.std.proofs.lemmas.List.{take-append-drop, get_or-take, get_or-drop, length-take-le, length-drop}
 use Rattle.std.proofs.lemmas.List.Elements.{All-head, All-tail, All-take, All-filter, filter-append, filter_passes}
 use Rattle.std.proofs.lemmas.List.Kept.{AllPairs-filter}
 use Rattle.nav_ground.specs.declared.field.Span.{Span}
@@ -11,8 +11,8 @@ use Rattle.nav_ground.specs.Column.{gaps_over, gaps_of}
 use Rattle.nav_ground.specs.Fields.{IsSpan, IsSpanBefore}
 use Rattle.span_filters.specs.declared.gaps.AgentStand.{AgentStand}
 use Rattle.span_filters.specs.declared.gaps.GapsSeen.{GapsSeen}
-use Rattle.span_filters.specs.Columns.{AreSpans, IsCutAt, column_of, is_in, place_of, start_of, floor_over}
-use Rattle.span_filters.specs.Gaps.{IsStand, is_open_to, with_gap, with_floor, seen_over, is_in_reach}
+use Rattle.span_filters.specs.Columns.{AreSpans, IsCutAt, column_of, is_in, place_of, start_of, floor_over, ceiling_over}
+use Rattle.span_filters.specs.Gaps.{IsStand, is_open_to, with_gap, with_floor, seen_over}
 use Rattle.span_filters.proofs.Neighbours.{stacked}
 
 -- a height is not below a floor, if there is one
@@ -43,13 +43,18 @@ closed_below stand seen floor ceiling low =
     lt-leb (higher stand.floor floor + stand.height) (min stand.ceiling ceiling) (omega (arith, low, over)) in
     ap (λ b. if b then option_map_or (with_floor stand seen) floor (record seen { beside_drop = true }) else seen) closed
 
--- a gap whose floor is too high for the own ceiling shows nothing
-closed_above : (stand : AgentStand) (seen : GapsSeen) (floor ceiling : ℕ) → stand.ceiling < floor + stand.height
+-- a gap whose floor is more than the climb too high shows nothing
+past_climb : (stand : AgentStand) (seen : GapsSeen) (floor ceiling : ℕ) → stand.floor + stand.climb < floor
     → with_gap stand seen (record { floor = Some floor; ceiling = ceiling }) ≡ seen
-closed_above stand seen floor ceiling high =
-    let closed : is_open_to stand (record { floor = Some floor; ceiling = ceiling }) ≡ false =
-    lt-leb (max stand.floor floor + stand.height) (min stand.ceiling ceiling) (omega (arith, high)) in
-    ap (λ b. if b then with_floor stand seen floor else seen) closed
+past_climb stand seen floor ceiling high =
+    elim (is_open_to stand (record { floor = Some floor; ceiling = ceiling })) as (λ b. (if b then with_floor stand seen floor else seen) ≡ seen) [
+      | true ↦ ap (λ b. if b then record seen { beside_drop = true }
+          else (if nat_le floor (stand.floor + stand.climb) then record seen { least = min seen.least floor; greatest = max seen.greatest floor } else seen))
+          (le-ltb (floor + stand.climb) stand.floor (omega (arith, high)))
+          ∙ ap (λ b. if b then record seen { least = min seen.least floor; greatest = max seen.greatest floor } else seen)
+          (lt-leb floor (stand.floor + stand.climb) high)
+      | false ↦ refl
+    ]
 
 -- spans whose bottoms are too low show nothing
 pub passed_gaps : (stand : AgentStand) (seen : GapsSeen) (floor : Option ℕ) (xs ys : List Span)
@@ -62,12 +67,21 @@ passed_gaps stand seen floor (s ∷ xs) ys each =
     ∙ passed_gaps stand seen (Some s.top) xs ys (All-tail P s xs each)
 
 -- spans over a floor that is too high show nothing
-pub gaps_too_high : (stand : AgentStand) (seen : GapsSeen) (floor : ℕ) (xs : List Span) → IsStack (Some floor) xs → stand.ceiling < floor + stand.height
+gaps_too_high : (stand : AgentStand) (seen : GapsSeen) (floor : ℕ) (xs : List Span) → IsStack (Some floor) xs → stand.floor + stand.climb < floor
     → seen_over stand seen (gaps_over (Some floor) xs) ≡ seen
-gaps_too_high stand seen floor [] stack high = closed_above stand seen floor 65535 high
+gaps_too_high stand seen floor [] stack high = past_climb stand seen floor 65535 high
 gaps_too_high stand seen floor (s ∷ xs) stack high =
-    ap (λ (now : GapsSeen). seen_over stand now (gaps_over (Some s.top) xs)) (closed_above stand seen floor s.bottom high)
+    ap (λ (now : GapsSeen). seen_over stand now (gaps_over (Some s.top) xs)) (past_climb stand seen floor s.bottom high)
     ∙ gaps_too_high stand seen s.top xs stack.2 (omega (arith, high, stack.0, stack.1))
+
+-- of spans whose bottoms are high enough only the gap below the first shows something
+first_gap : (stand : AgentStand) (seen : GapsSeen) (floor : Option ℕ) (xs : List Span) → IsStand stand → IsStack floor xs
+    → All (λ (s : Span). stand.floor + stand.height ≤ s.bottom) xs
+    → with_gap stand seen (record { floor = floor; ceiling = ceiling_over xs }) ≡ seen_over stand seen (gaps_over floor xs)
+first_gap stand seen floor [] at stack high = refl
+first_gap stand seen floor (s ∷ xs) at stack high =
+    let bottom = All-head (λ (s : Span). stand.floor + stand.height ≤ s.bottom) s xs high in
+    sym (gaps_too_high stand (with_gap stand seen (record { floor = floor; ceiling = s.bottom })) s.top xs stack.2 (omega (arith, bottom, at.climb, stack.1)))
 
 -- the rest of a stack
 pub rest_of_stack : (floor : Option ℕ) (xs ys : List Span) → IsStack floor (xs ++ ys) → IsStack (floor_over floor xs) ys
@@ -127,6 +141,17 @@ module _ (stand : AgentStand) (spans : List Span) (n column : ℕ) (rules' : Are
       let inside = eqb-true _ _ (filter_passes (is_in column) (take n spans) k d there) in
       omega (arith, before, inside)
 
+  -- and from the first one on high enough
+  high_from : All (λ (s : Span). stand.floor + stand.height ≤ s.bottom) (filter (is_in column) (drop n spans))
+  high_from k d there =
+      let P : Span → Type 0 = λ (s : Span). place_of column (stand.floor + stand.height) ≤ start_of s in
+      let each : All P (drop n spans) = λ j e within.
+      let fewer = length-drop n spans in
+      subst P (sym (get_or-drop n spans j e)) (first.after (n + j) e (omega arith) (omega (arith, fewer, within))) in
+      let after = All-filter (is_in column) P (drop n spans) each k d there in
+      let inside = eqb-true _ _ (filter_passes (is_in column) (drop n spans) k d there) in
+      omega (arith, after, inside)
+
   -- from the first one on no span lies in an earlier column
   pub next_from : (k : ℕ) (d : Span) → n ≤ k → k < length spans → column ≤ column_of (get_or spans k d)
   next_from k d above there =
@@ -136,30 +161,26 @@ module _ (stand : AgentStand) (spans : List Span) (n column : ℕ) (rules' : Are
       omega (arith, after, solid, top)
 
   module _ (floor : Option ℕ) (under : floor ≡ floor_over None (filter (is_in column) (take n spans))) where
-    pub stack_from : IsStack floor (filter (is_in column) (drop n spans))
+    stack_from : IsStack floor (filter (is_in column) (drop n spans))
     stack_from =
         let P : Option ℕ → Type 0 = λ f. IsStack f (filter (is_in column) (drop n spans)) in
         let Q : List Span → Type 0 = λ xs. IsStack None xs in
         subst P (sym under) (rest_of_stack None (filter (is_in column) (take n spans)) (filter (is_in column) (drop n spans))
         (subst Q (sym (cut (is_in column) n spans)) (column_stack spans column rules')))
 
-    pub seen_from : (seen : GapsSeen) → seen_over stand seen (gaps_over floor (filter (is_in column) (drop n spans)))
+    seen_from : (seen : GapsSeen) → seen_over stand seen (gaps_over floor (filter (is_in column) (drop n spans)))
         ≡ seen_over stand seen (gaps_of (filter (is_in column) spans))
     seen_from seen =
         ap (λ f. seen_over stand seen (gaps_over f (filter (is_in column) (drop n spans)))) under
         ∙ sym (passed_gaps stand seen None (filter (is_in column) (take n spans)) (filter (is_in column) (drop n spans)) low_before)
         ∙ ap (λ xs. seen_over stand seen (gaps_over None xs)) (cut (is_in column) n spans)
 
+    pub gap_from : (seen : GapsSeen) → with_gap stand seen (record { floor = floor; ceiling = ceiling_over (filter (is_in column) (drop n spans)) })
+        ≡ seen_over stand seen (gaps_of (filter (is_in column) spans))
+    gap_from seen = first_gap stand seen floor (filter (is_in column) (drop n spans)) at stack_from high_from ∙ seen_from seen
+
     pub floor_from : IfSome floor (λ f. f ≤ 8191)
     floor_from =
         let P : Option ℕ → Type 0 = λ f. IfSome f (λ h. h ≤ 8191) in
         subst P (sym under) (floor_small None (filter (is_in column) (take n spans)) tt
         (All-filter (is_in column) (IsSpan 1024 1024) (take n spans) (All-take (IsSpan 1024 1024) n spans rules'.each)))
-
--- from a floor that is out of reach on nothing more is seen
-pub past_reach : (stand : AgentStand) (seen : GapsSeen) (floor : Option ℕ) (xs : List Span) → is_in_reach stand floor ≡ false → IsStack floor xs
-    → with_gap stand seen (record { floor = floor; ceiling = 65535 }) ≡ seen_over stand seen (gaps_over floor xs)
-past_reach stand seen None xs far stack = absurd (both_ways true far refl)
-past_reach stand seen (Some floor) xs far stack =
-    let high = leb-false _ _ far in
-    closed_above stand seen floor 65535 high ∙ sym (gaps_too_high stand seen floor xs stack high)

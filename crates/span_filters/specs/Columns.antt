@@ -1,5 +1,5 @@
 -- Columns by number and heights over them as places, so that spans in order begin at places in order.
-use Rattle.std.specs.Prelude.{◌≡◌, ℕ, ◌+◌, ◌-◌, ◌*◌, ◌<◌, ◌≤◌, Bool, ◌==◌, if◌then◌else◌, List, [], ◌∷◌, length, All, AllPairs, Option, Some, slice_index_or}
+use Rattle.std.specs.Prelude.{◌≡◌, ℕ, ◌+◌, ◌-◌, ◌*◌, ◌<◌, ◌≤◌, Bool, ◌==◌, if◌then◌else◌, List, [], ◌∷◌, length, map, All, AllPairs, Option, Some, slice_index_or}
 use Rattle.nav_ground.specs.declared.field.Span.{Span}
 use Rattle.nav_ground.specs.Fields.{IsSpan, IsSpanBefore}
 
@@ -41,6 +41,11 @@ place_of column height = column * 16384 + height
 abbrev pub start_of : Span → ℕ
 start_of span = place_of (column_of span) span.bottom
 
+-- spans in order, with the places where they begin beside them
+pub record ArePlaced (spans : List Span) (starts : List ℕ) : Type 0 where
+  pub rules : AreSpans spans
+  pub places : starts ≡ map start_of spans
+
 -- the first n spans begin before a place
 pub record IsPassed (spans : List Span) (n place : ℕ) : Type 0 where
   pub most : n ≤ length spans
@@ -55,3 +60,8 @@ pub record IsCutAt (spans : List Span) (n place : ℕ) : Type 0 where
 abbrev pub floor_over : Option ℕ → List Span → Option ℕ
 floor_over floor [] = floor
 floor_over floor (span ∷ above) = floor_over (Some span.top) above
+
+-- the bottom of the lowest of spans that stand one above the other; open sky where there is none
+abbrev pub ceiling_over : List Span → ℕ
+ceiling_over [] = 65535
+ceiling_over (span ∷ above) = span.bottom

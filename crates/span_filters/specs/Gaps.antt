@@ -1,15 +1,15 @@
 -- What is seen of gaps, one after the other.
-use Rattle.std.specs.Prelude.{ℕ, ◌+◌, ◌<◌, ◌≤◌, Bool, true, false, ◌||◌, nat_le, nat_lt, min, max, if◌then◌else◌, List, fold, Option}
+use Rattle.std.specs.Prelude.{ℕ, ◌+◌, ◌<◌, ◌≤◌, Bool, true, false, ◌||◌, nat_le, nat_lt, min, max, if◌then◌else◌, List, fold}
 use Rattle.std.specs.Option.{option_map_or}
 use Rattle.nav_ground.specs.Column.{Gap}
 use Rattle.span_filters.specs.declared.gaps.AgentStand.{AgentStand}
 use Rattle.span_filters.specs.declared.gaps.GapsSeen.{GapsSeen}
 
--- an agent stands on a span of the largest field
+-- an agent stands on a span of the largest field, and climbs less than its height
 pub record IsStand (stand : AgentStand) : Type 0 where
   pub floor : stand.floor ≤ 8191
   pub height : stand.height < 256
-  pub climb : stand.climb < 256
+  pub climb : stand.climb < stand.height
 
 -- a gap is open to a stand
 abbrev pub is_open_to : AgentStand → Gap → Bool
@@ -35,10 +35,6 @@ seen_over stand seen gaps = fold (with_gap stand) seen gaps
 -- before any gap the own floor alone is seen
 abbrev pub seen_at_first : AgentStand → GapsSeen
 seen_at_first stand = record { beside_drop = false; least = stand.floor; greatest = stand.floor }
-
--- a gap with such a floor, or one above it, may be open
-abbrev pub is_in_reach : AgentStand → Option ℕ → Bool
-is_in_reach stand floor = option_map_or (λ height. nat_le (height + stand.height) stand.ceiling) floor true
 
 -- what is seen makes a span a ledge: a drop, or floors that differ by more than the climb
 abbrev pub shows_ledge : GapsSeen → ℕ → Bool

@@ -1,20 +1,20 @@
 //! The filters that look at one column alone, and all filters one after the other. The filter of ledges.
 
-ghost use Rattle.std.specs.Prelude.{◌≡◌, ◌<◌, IfOk, IfSome, length, ◌+◌, ◌≤◌, filter, slice_index_or, if◌then◌else◌};
+ghost use Rattle.std.specs.Prelude.{◌≡◌, ◌<◌, IfOk, IfSome, length, map, ◌+◌, ◌≤◌, filter, slice_index_or, if◌then◌else◌};
 ghost use Rattle.nav_ground.specs.declared.field.Span.{Span};
 ghost use Rattle.nav_ground.specs.Fields.{IsField, AreAreas};
 ghost use Rattle.nav_ground.specs.Limits.{IsAgent};
 ghost use Rattle.nav_ground.specs.Directions.{number};
 ghost use Rattle.nav_ground.specs.Filters.{low_hanging_areas, low_ceiling_areas, filtered_areas, ledge_areas, is_ledge, is_at_edge, gaps_beside};
-ghost use Rattle.span_filters.specs.Columns.{IsLargestSpan, AreSpans, IsPassed, IsCutAt, column_beside, place_of, is_in};
+ghost use Rattle.span_filters.specs.Columns.{IsLargestSpan, ArePlaced, IsPassed, IsCutAt, column_of, column_beside, place_of, start_of, is_in};
 ghost use Rattle.span_filters.specs.Areas.{area_hung};
 ghost use Rattle.nav_ground.specs.Column.{gaps_of, column_toward};
 ghost use Rattle.span_filters.specs.Gaps.{IsStand, seen_over, seen_at_first};
 ghost use Rattle.span_filters.specs.Looks.{ArePassed};
 
 use crate::gaps::{
-    AgentStand, GapsSeen, OPEN_SKY, ceiling_of, column_beside, column_of, floor_over, is_in_reach,
-    pass, place_of, shows_ledge, span_below, with_gap,
+    AgentStand, GapsSeen, PlacedSpans, ceiling_of, ceiling_over, column_beside, column_of,
+    floor_over, pass, place_of, see_gap, shows_ledge, span_below, starts_of,
 };
 use nav_ground::{Agent, Direction, Field, PackedSpan};
 use std::alloc::{AllocError, Global};
@@ -126,16 +126,26 @@ pub fn ledges(
         right: 0,
         below: 0,
     };
+    let starts = starts_of(alloc, field.spans.as_slice())?;
+    let starts = starts.as_slice();
     let mut left = Vec::with_capacity(alloc, areas.len())?;
     for (i, area) in areas.iter().enumerate() {
-        left.push(area_left(field, agent, &mut passed, i, *area))?;
+        left.push(area_left(field, starts, agent, &mut passed, i, *area))?;
     }
     Ok(left)
 }
 
 /// The area that a span is left with.
-fn area_left(field: &Field, agent: &Agent, passed: &mut PassedSpans, i: usize, area: u32) -> u32
+fn area_left(
+    field: &Field,
+    starts: &[u64],
+    agent: &Agent,
+    passed: &mut PassedSpans,
+    i: usize,
+    area: u32,
+) -> u32
     requires field { IsField field.now }
+    requires starts { starts.now ≡ map start_of field.now.spans }
     requires agent { IsAgent agent.now }
     requires there { i < length field.now.spans }
     requires passed { (d : Span) → ArePassed field.now.spans passed.old agent.now.height (slice_index_or field.now.spans i d) }
@@ -145,7 +155,7 @@ fn area_left(field: &Field, agent: &Agent, passed: &mut PassedSpans, i: usize, a
     if area == 0 {
         return 0;
     }
-    if is_ledge(field, agent, passed, i) {
+    if is_ledge(field, starts, agent, passed, i) {
         0
     } else {
         area
@@ -153,8 +163,15 @@ fn area_left(field: &Field, agent: &Agent, passed: &mut PassedSpans, i: usize, a
 }
 
 /// Whether a span is a ledge.
-fn is_ledge(field: &Field, agent: &Agent, passed: &mut PassedSpans, i: usize) -> bool
+fn is_ledge(
+    field: &Field,
+    starts: &[u64],
+    agent: &Agent,
+    passed: &mut PassedSpans,
+    i: usize,
+) -> bool
     requires field { IsField field.now }
+    requires starts { starts.now ≡ map start_of field.now.spans }
     requires agent { IsAgent agent.now }
     requires there { i < length field.now.spans }
     requires passed { (d : Span) → ArePassed field.now.spans passed.old agent.now.height (slice_index_or field.now.spans i d) }
@@ -172,7 +189,13 @@ fn is_ledge(field: &Field, agent: &Agent, passed: &mut PassedSpans, i: usize) ->
         height: agent.height,
         climb: agent.climb,
     };
-    let seen = look_around(&stand, spans, passed, span);
+    let post = LedgeView {
+        stand: &stand,
+        list: PlacedSpans { spans, starts },
+        span,
+        column: column_of(span),
+    };
+    let seen = look_around(&post, passed);
     shows_ledge(&seen, agent.climb)
 }
 
@@ -184,79 +207,70 @@ fn is_at_edge(field: &Field, span: &PackedSpan) -> bool
     span.x() == 0 || span.z() == 0 || span.x() + 1 == field.width || span.z() + 1 == field.depth
 }
 
-/// What a span sees of the gaps of the four columns beside its own.
-fn look_around(
-    stand: &AgentStand,
-    spans: &[PackedSpan],
-    passed: &mut PassedSpans,
-    span: &PackedSpan,
-) -> GapsSeen
-    requires stand { IsStand stand.now }
-    requires spans { AreSpans spans.now }
-    requires span { IsLargestSpan span.now }
-    requires floor { stand.now.floor ≡ span.now.top }
-    requires passed { ArePassed spans.now passed.old stand.now.height span.now }
-    ensures seen { result ≡ seen_over stand.now (seen_at_first stand.now) (gaps_beside spans.now span.now) }
-    ensures least { result.least ≤ stand.now.floor }
-    ensures passed { ArePassed spans.now passed.new stand.now.height span.now }
-{
-    let own = GapsSeen {
-        beside_drop: false,
-        least: stand.floor,
-        greatest: stand.floor,
-    };
-    let post = LedgeView { stand, spans, span };
-    let one = look_toward(Direction::Left, post, &mut passed.left, own);
-    let two = look_toward(Direction::Above, post, &mut passed.above, one);
-    let three = look_toward(Direction::Right, post, &mut passed.right, two);
-    look_toward(Direction::Below, post, &mut passed.below, three)
-}
-
-/// Where gaps are looked at from: a span of a field, and the agent that would stand on it.
+/// Where gaps are looked at from: a span of a field and its column, and the agent that would stand on it.
 #[derive(Clone, Copy, Drop)]
 struct LedgeView<'a> {
     stand: &'a AgentStand,
-    spans: &'a [PackedSpan],
+    list: PlacedSpans<'a>,
     span: &'a PackedSpan,
-}
-
-/// What is seen once the gaps of the column beside a span's in a direction are looked at too.
-fn look_toward(dir: Direction, post: LedgeView<'_>, passed: &mut usize, seen: GapsSeen) -> GapsSeen
-    requires stand { IsStand post.stand.now }
-    requires spans { AreSpans post.spans.now }
-    requires span { IsLargestSpan post.span.now }
-    requires passed { IsPassed post.spans.now passed.old (place_of (column_beside (number dir) post.span.now) (post.stand.now.floor + post.stand.now.height)) }
-    ensures seen { result ≡ seen_over post.entry.stand.now seen (gaps_of (column_toward (number dir) post.entry.spans.now post.entry.span.now)) }
-    ensures passed { IsPassed post.entry.spans.now passed.new
-        (place_of (column_beside (number dir) post.entry.span.now) (post.entry.stand.now.floor + post.entry.stand.now.height)) }
-{
-    let LedgeView { stand, spans, span } = post;
-    let column = column_beside(dir, span);
-    *passed = pass(spans, *passed, place_of(column, stand.floor + stand.height));
-    look(stand, spans, *passed, column, seen)
-}
-
-/// What is seen once the gaps of a column are looked at too, where the first span that begins high enough for an open gap is known.
-/// Gaps are looked at from the bottom up until their floors are too high.
-fn look(
-    stand: &AgentStand,
-    spans: &[PackedSpan],
-    first: usize,
     column: u32,
-    seen: GapsSeen,
-) -> GapsSeen
-    requires stand { IsStand stand.now }
-    requires spans { AreSpans spans.now }
-    requires first { IsCutAt spans.now first (place_of column (stand.now.floor + stand.now.height)) }
-    ensures { result ≡ seen_over stand.now seen (gaps_of (filter (is_in column) spans.now)) }
+}
+
+/// What a span sees of the gaps of the four columns beside its own.
+fn look_around(post: &LedgeView<'_>, passed: &mut PassedSpans) -> GapsSeen
+    requires stand { IsStand post.now.stand.now }
+    requires list { ArePlaced post.now.list.spans.now post.now.list.starts.now }
+    requires span { IsLargestSpan post.now.span.now }
+    requires column { post.now.column ≡ column_of post.now.span.now }
+    requires floor { post.now.stand.now.floor ≡ post.now.span.now.top }
+    requires passed { ArePassed post.now.list.spans.now passed.old post.now.stand.now.height post.now.span.now }
+    ensures seen { result ≡ seen_over post.now.stand.now (seen_at_first post.now.stand.now) (gaps_beside post.now.list.spans.now post.now.span.now) }
+    ensures least { result.least ≤ post.now.stand.now.floor }
+    ensures passed { ArePassed post.now.list.spans.now passed.new post.now.stand.now.height post.now.span.now }
 {
-    let mut seen = seen;
-    let mut floor = floor_over(spans, first, column);
-    let mut i = first;
-    while i < spans.len() && column_of(&spans[i]) == column && is_in_reach(stand, floor) {
-        seen = with_gap(stand, seen, floor, spans[i].bottom());
-        floor = Some(spans[i].top());
-        i += 1;
-    }
-    with_gap(stand, seen, floor, OPEN_SKY)
+    let mut seen = GapsSeen {
+        beside_drop: false,
+        least: post.stand.floor,
+        greatest: post.stand.floor,
+    };
+    look_toward(Direction::Left, post, &mut passed.left, &mut seen);
+    look_toward(Direction::Above, post, &mut passed.above, &mut seen);
+    look_toward(Direction::Right, post, &mut passed.right, &mut seen);
+    look_toward(Direction::Below, post, &mut passed.below, &mut seen);
+    seen
+}
+
+/// Takes the gaps of the column beside a span's in a direction into what is seen.
+fn look_toward(dir: Direction, post: &LedgeView<'_>, passed: &mut usize, seen: &mut GapsSeen)
+    requires stand { IsStand post.now.stand.now }
+    requires list { ArePlaced post.now.list.spans.now post.now.list.starts.now }
+    requires span { IsLargestSpan post.now.span.now }
+    requires column { post.now.column ≡ column_of post.now.span.now }
+    requires passed { IsPassed post.now.list.spans.now passed.old
+        (place_of (column_beside (number dir) post.now.span.now) (post.now.stand.now.floor + post.now.stand.now.height)) }
+    ensures seen { seen.new ≡ seen_over post.now.stand.now seen.old (gaps_of (column_toward (number dir) post.now.list.spans.now post.now.span.now)) }
+    ensures passed { IsPassed post.now.list.spans.now passed.new
+        (place_of (column_beside (number dir) post.now.span.now) (post.now.stand.now.floor + post.now.stand.now.height)) }
+{
+    let stand = post.stand;
+    let column = column_beside(dir, post.column);
+    *passed = pass(
+        post.list,
+        *passed,
+        place_of(column, stand.floor + stand.height),
+    );
+    look(stand, post.list, *passed, column, seen);
+}
+
+/// Takes the gaps of a column into what is seen, where the first span that begins high enough for an open gap is known. Only the gap below
+/// that span can show something: the floors above it are more than the climb too high, since the climb is less than the height.
+fn look(stand: &AgentStand, list: PlacedSpans<'_>, first: usize, column: u32, seen: &mut GapsSeen)
+    requires stand { IsStand stand.now }
+    requires list { ArePlaced list.spans.now list.starts.now }
+    requires first { IsCutAt list.spans.now first (place_of column (stand.now.floor + stand.now.height)) }
+    ensures { seen.new ≡ seen_over stand.now seen.old (gaps_of (filter (is_in column) list.entry.spans.now)) }
+{
+    let floor = floor_over(list, first, column);
+    let ceiling = ceiling_over(list, first, column);
+    see_gap(stand, seen, floor, ceiling);
 }

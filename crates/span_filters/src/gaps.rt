@@ -1,14 +1,15 @@
 //! What an agent on a span sees of the gaps around it. Columns of spans: what stands above and below a span, and where other columns lie in
 //! the list.
 
-ghost use Rattle.std.specs.Prelude.{◌≡◌, ◌<◌, ◌≤◌, IfSome, ◌+◌, ◌↔◌, IsTrue, None, length, take, filter, slice_index_or};
+ghost use Rattle.std.specs.Prelude.{◌≡◌, ℕ, ◌<◌, ◌≤◌, IfOk, IfSome, ◌+◌, ◌↔◌, IsTrue, None, length, map, take, drop, filter, slice_index_or};
 ghost use Rattle.span_filters.specs.Gaps.{IsStand};
 ghost use Rattle.nav_ground.specs.declared.field.Span.{Span};
 ghost use Rattle.nav_ground.specs.Column.{span_below, ceiling_of};
 ghost use Rattle.nav_ground.specs.Directions.{number};
-ghost use Rattle.span_filters.specs.Columns.{IsLargestSpan, AreSpans, IsPassed, IsCutAt, IsSameColumn, column_of, column_beside, place_of, start_of, floor_over, is_in};
+ghost use Rattle.span_filters.specs.Columns.{IsLargestSpan, AreSpans, ArePlaced, IsPassed, IsCutAt, IsSameColumn, column_of, column_beside, place_of, start_of, floor_over, is_in};
 
 use nav_ground::{Direction, PackedSpan};
+use std::alloc::{AllocError, Global};
 
 /// Where an agent would stand, and the agent: heights in height units.
 #[derive(Clone, Copy)]
@@ -33,60 +34,40 @@ pub struct GapsSeen {
     pub greatest: u32,
 }
 
-/// What is seen once one more gap is looked at, from its floor, if it has one, up to its ceiling.
-pub fn with_gap(stand: &AgentStand, seen: GapsSeen, floor: Option<u32>, ceiling: u32) -> GapsSeen
+/// Takes one more gap into what is seen, from its floor, if it has one, up to its ceiling.
+pub fn see_gap(stand: &AgentStand, seen: &mut GapsSeen, floor: Option<u32>, ceiling: u32)
     requires stand { IsStand stand.now }
     requires floor { IfSome floor (λ floor. floor ≤ 8191) }
-    ensures { result ≡ Rattle.span_filters.specs.Gaps.with_gap stand.now seen (record { floor = floor; ceiling = ceiling }) }
+    ensures { seen.new ≡ Rattle.span_filters.specs.Gaps.with_gap stand.now seen.old (record { floor = floor; ceiling = ceiling }) }
 {
     let higher = match floor {
         Some(floor) => stand.floor.max(floor),
         None => stand.floor,
     };
     if higher + stand.height > stand.ceiling.min(ceiling) {
-        return seen;
+        return;
     }
     match floor {
-        Some(floor) => with_floor(stand, seen, floor),
-        None => GapsSeen {
-            beside_drop: true,
-            ..seen
-        },
+        Some(floor) => see_floor(stand, seen, floor),
+        None => seen.beside_drop = true,
     }
 }
 
-/// What is seen once one more floor of an open gap is looked at.
-fn with_floor(stand: &AgentStand, seen: GapsSeen, floor: u32) -> GapsSeen
+/// Takes one more floor of an open gap into what is seen.
+fn see_floor(stand: &AgentStand, seen: &mut GapsSeen, floor: u32)
     requires stand { IsStand stand.now }
     requires floor { floor ≤ 8191 }
-    ensures { result ≡ Rattle.span_filters.specs.Gaps.with_floor stand.now seen floor }
+    ensures { seen.new ≡ Rattle.span_filters.specs.Gaps.with_floor stand.now seen.old floor }
 {
     if floor + stand.climb < stand.floor {
-        return GapsSeen {
-            beside_drop: true,
-            ..seen
-        };
+        seen.beside_drop = true;
+        return;
     }
     if floor > stand.floor + stand.climb {
-        return seen;
+        return;
     }
-    GapsSeen {
-        beside_drop: seen.beside_drop,
-        least: seen.least.min(floor),
-        greatest: seen.greatest.max(floor),
-    }
-}
-
-/// Whether a gap with such a floor, or one above it, may be open.
-pub fn is_in_reach(stand: &AgentStand, floor: Option<u32>) -> bool
-    requires stand { IsStand stand.now }
-    requires floor { IfSome floor (λ floor. floor ≤ 8191) }
-    ensures { result ≡ Rattle.span_filters.specs.Gaps.is_in_reach stand.now floor }
-{
-    match floor {
-        Some(floor) => floor + stand.height <= stand.ceiling,
-        None => true,
-    }
+    seen.least = seen.least.min(floor);
+    seen.greatest = seen.greatest.max(floor);
 }
 
 /// Whether what is seen makes the span a ledge: a drop, or floors that differ by more than the climb.
@@ -152,12 +133,12 @@ pub fn column_of(span: &PackedSpan) -> u32
     (span.z() + 1) * 2048 + span.x()
 }
 
-/// The number of the column beside a span's in a direction.
-pub fn column_beside(dir: Direction, span: &PackedSpan) -> u32
-    requires span { IsLargestSpan span.now }
-    ensures { result ≡ Rattle.span_filters.specs.Columns.column_beside (number dir) span.now }
+/// The number of the column beside one in a direction.
+pub fn column_beside(dir: Direction, column: u32) -> u32
+    requires least { 2048 ≤ column }
+    requires most { column < 4194304 }
+    ensures { (span : Span) → column ≡ column_of span → result ≡ Rattle.span_filters.specs.Columns.column_beside (number dir) span }
 {
-    let column = column_of(span);
     match dir {
         Direction::Left => column - 1,
         Direction::Above => column + 2048,
@@ -173,19 +154,6 @@ pub fn place_of(column: u32, height: u32) -> u64
     u64::from(column) * 16384 + u64::from(height)
 }
 
-/// How many of the spans begin before a place, where so many are known to do.
-pub fn pass(spans: &[PackedSpan], known: usize, place: u64) -> usize
-    requires spans { AreSpans spans.now }
-    requires known { IsPassed spans.now known place }
-    ensures { IsCutAt spans.now result place }
-{
-    let mut passed = known;
-    while passed < spans.len() && start_of(&spans[passed]) < place {
-        passed += 1;
-    }
-    passed
-}
-
 /// The place where a span begins.
 fn start_of(span: &PackedSpan) -> u64
     requires { IsLargestSpan span.now }
@@ -194,19 +162,65 @@ fn start_of(span: &PackedSpan) -> u64
     place_of(column_of(span), span.bottom())
 }
 
+/// The places where the spans begin, so that none is reckoned again for each column beside it.
+pub fn starts_of(alloc: Global, spans: &[PackedSpan]) -> Result<Vec<u64>, AllocError>
+    requires { AreSpans spans.now }
+    ensures { IfOk result (λ starts. starts.items ≡ map start_of spans.now) }
+{
+    let mut starts = Vec::with_capacity(alloc, spans.len())?;
+    for span in spans {
+        starts.push(start_of(span))?;
+    }
+    Ok(starts)
+}
+
+/// Spans in order, and beside them the places where they begin.
+#[derive(Clone, Copy, Drop)]
+pub struct PlacedSpans<'a> {
+    pub spans: &'a [PackedSpan],
+    pub starts: &'a [u64],
+}
+
+/// How many of the spans begin before a place, where so many are known to do.
+pub fn pass(list: PlacedSpans<'_>, known: usize, place: u64) -> usize
+    requires list { ArePlaced list.spans.now list.starts.now }
+    requires known { IsPassed list.spans.now known place }
+    ensures { IsCutAt list.entry.spans.now result place }
+{
+    let starts = list.starts;
+    let mut passed = known;
+    while passed < starts.len() && starts[passed] < place {
+        passed += 1;
+    }
+    passed
+}
+
 /// The floor in a column over the first so many spans: the top of the last one, or none where that one lies in another column.
-pub fn floor_over(spans: &[PackedSpan], passed: usize, column: u32) -> Option<u32>
-    requires spans { AreSpans spans.now }
-    requires passed { IsPassed spans.now passed (Rattle.span_filters.specs.Columns.place_of (column + 1) 0) }
-    ensures { result ≡ Rattle.span_filters.specs.Columns.floor_over None (filter (is_in column) (take passed spans.now)) }
+pub fn floor_over(list: PlacedSpans<'_>, passed: usize, column: u32) -> Option<u32>
+    requires list { ArePlaced list.spans.now list.starts.now }
+    requires passed { IsPassed list.spans.now passed (Rattle.span_filters.specs.Columns.place_of (column + 1) 0) }
+    ensures { result ≡ Rattle.span_filters.specs.Columns.floor_over None (filter (is_in column) (take passed list.entry.spans.now)) }
 {
     if passed == 0 {
         return None;
     }
-    let below = &spans[passed - 1];
-    if column_of(below) == column {
-        Some(below.top())
+    if list.starts[passed - 1] < place_of(column, 0) {
+        return None;
+    }
+    Some(list.spans[passed - 1].top())
+}
+
+/// The bottom of the first span of a column from one on, where none from that one on lies in an earlier column; open sky where there is none.
+pub fn ceiling_over(list: PlacedSpans<'_>, first: usize, column: u32) -> u32
+    requires list { ArePlaced list.spans.now list.starts.now }
+    requires next { (k : ℕ) (d : Span) → first ≤ k → k < length list.spans.now → column ≤ column_of (slice_index_or list.spans.now k d) }
+    ensures { result ≡ Rattle.span_filters.specs.Columns.ceiling_over (filter (is_in column) (drop first list.entry.spans.now)) }
+{
+    let starts = list.starts;
+    let foot = place_of(column, 0);
+    if first < starts.len() && starts[first] < foot + 16384 {
+        (starts[first] - foot) as u32
     } else {
-        None
+        OPEN_SKY
     }
 }

@@ -10,9 +10,9 @@ loop-cell-preserved c =
     let cells = c.args.cells.now in
     let i = c.loop-cell.cell-index in
     record {
-      count = omega (arith, ap length c.in_ok-push.ensures.items, length-append c.loop-cell.marks.items (c.mark_of-mark.result ∷ []), c.loop-cell.invariant.count);
+      count = omega (arith, ap length c.in_ok-push.ensures.items, length-append c.loop-cell.marks.items (c.in-Some.next.mark ∷ []), c.loop-cell.invariant.count);
       within = c.in-Some.ensures.within;
       left = ap (λ (ms : List CellMark). cells_left ms (take (i + 1) cells)) c.in_ok-push.ensures.items
-          ∙ marks_more c.loop-cell.marks.items cells c.args.free.now i c.loop-cell.passed c.in-Some.next c.mark_of-mark.result c.cell-item.result
+          ∙ marks_more c.loop-cell.marks.items cells c.args.free.now i c.loop-cell.passed c.in-Some.next.passed c.in-Some.next.mark c.cell-item.result
           c.loop-cell.invariant.count c.loop-cell-test.true c.cell-item.is c.loop-cell.invariant.left c.in-Some.ensures.left;
     }

@@ -1,14 +1,17 @@
-use Rattle.std.proofs.Common.{◌∙◌, refl, ap, sym}
+use Rattle.std.proofs.Common.{◌∙◌, refl, ap, subst, sym}
+use Rattle.std.specs.Prelude.{All}
+use Rattle.nav_ground.specs.declared.cell.CellRef.{CellRef}
 use Rattle.cell_table.specs.Columns.{column_of}
+use Rattle.obstacle_mark.specs.Columns.{LiesApart}
 use Rattle.obstacle_mark.specs.Places.{next_kept}
 use Rattle.obstacle_mark.proofs.AwayPlaces.{cell_kept}
 use Rattle.obstacle_mark.proofs.SmallAreas.{free_cell_small}
 use Rattle.obstacle_mark.proofs.free.free_cell.Goals as goal
 
-pub returns-then-are_away-clause-cell : goal.returns-then-are_away-clause-cell
-returns-then-are_away-clause-cell c =
-    cell_kept c.args.cell.now c.args.area c.args.blocked.now c.column_of.result c.requires.cell (c.if-area.true ∙ c.area.ensures) c.requires.blocked
-    (c.column_of.ensures.value ∙ ap column_of c.at.ensures) (c.if-are_away.ensures refl)
+pub returns-then-is_clear-clause-cell : goal.returns-then-is_clear-clause-cell
+returns-then-is_clear-clause-cell c =
+    cell_kept c.args.cell.now c.args.area c.args.blocked.now c.requires.cell (c.if-area.true ∙ c.area.ensures) c.requires.blocked
+    (subst (λ (at : CellRef). All (LiesApart (column_of at)) c.args.blocked.now) c.at.ensures (c.if-is_clear.ensures.clear refl))
 
 pub new-requires : goal.new-requires
 new-requires c =

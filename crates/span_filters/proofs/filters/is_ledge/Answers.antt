@@ -1,9 +1,9 @@
-use Rattle.std.proofs.Common.{ℕ, ◌∙◌, List, length, get_or, ap, sym, subst₂, arith}
+use Rattle.std.proofs.Common.{ℕ, ◌∙◌, List, length, map, get_or, ap, sym, subst₂, arith}
 use Rattle.nav_ground.specs.declared.field.Span.{Span}
 use Rattle.nav_ground.specs.Column.{ceiling_of}
 use Rattle.nav_ground.specs.Filters.{gaps_beside}
 use Rattle.span_filters.specs.declared.gaps.AgentStand.{AgentStand}
-use Rattle.span_filters.specs.Columns.{IsLargestSpan}
+use Rattle.span_filters.specs.Columns.{IsLargestSpan, start_of}
 use Rattle.span_filters.specs.Gaps.{seen_over, seen_at_first}
 use Rattle.span_filters.specs.Looks.{ArePassed}
 use Rattle.span_filters.proofs.Neighbours.{spans_read}
@@ -34,15 +34,25 @@ ceiling_of-requires-clause-spans c = spans_read c.args.field.now _ c.requires.fi
 pub ceiling_of-requires-clause-there : goal.ceiling_of-requires-clause-there
 ceiling_of-requires-clause-there c = omega (arith, ap length c.as_slice-spans.ensures)
 
+pub column_of-requires : goal.column_of-requires
+column_of-requires c =
+    largest_read c.as_slice-spans.result.now c.args.i c.index-spans-i.result (spans_read c.args.field.now _ c.requires.field c.as_slice-spans.ensures)
+    (omega (arith, ap length c.as_slice-spans.ensures)) c.index-spans-i.is
+
 pub look_around-seen-requires : goal.look_around-seen-requires
 look_around-seen-requires c =
+    let spans = c.as_slice-spans.result.now in
     let span : Span = c.index-spans-i.result in
-    let here = largest_read c.as_slice-spans.result.now c.args.i span (spans_read c.args.field.now _ c.requires.field c.as_slice-spans.ensures)
+    let here = largest_read spans c.args.i span (spans_read c.args.field.now _ c.requires.field c.as_slice-spans.ensures)
     (omega (arith, ap length c.as_slice-spans.ensures)) c.index-spans-i.is in
     record {
-      stand = record { floor = omega (arith, c.top.ensures, here.top); height = omega arith; climb = omega arith };
-      spans = spans_read c.args.field.now _ c.requires.field c.as_slice-spans.ensures;
+      stand = record { floor = omega (arith, c.top.ensures, here.top); height = omega arith; climb = c.requires.agent.climb };
+      list = record {
+        rules = spans_read c.args.field.now _ c.requires.field c.as_slice-spans.ensures;
+        places = c.requires.starts ∙ ap (map start_of) (sym c.as_slice-spans.ensures);
+      };
       span = here;
+      column = c.column_of.ensures;
       floor = c.top.ensures;
       passed = subst₂ (λ (xs : List Span) (s : Span). ArePassed xs c.args.passed.now c.args.agent.now.height s) (sym c.as_slice-spans.ensures)
           (sym (read_from _ _ c.args.i span span c.as_slice-spans.ensures c.requires.there c.index-spans-i.is)) (c.requires.passed span);

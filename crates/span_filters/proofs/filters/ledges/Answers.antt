@@ -1,12 +1,15 @@
 use Rattle.std.proofs.Common.{◌∙◌, arith}
 use Rattle.nav_ground.specs.declared.field.Span.{Span}
 use Rattle.nav_ground.specs.Filters.{is_ledge}
-use Rattle.span_filters.proofs.Neighbours.{spans_of_field}
+use Rattle.span_filters.proofs.Neighbours.{spans_of_field, spans_read}
 use Rattle.span_filters.proofs.OneMoreSpan.{without_more, passed_after}
 use Rattle.span_filters.proofs.filters.ledges.Goals as goal
 
 abbrev no_span : Span
 no_span = record { x = 0; z = 0; bottom = 0; top = 0; area = 0 }
+
+pub starts_of-requires : goal.starts_of-requires
+starts_of-requires c = spans_read c.args.field.now _ c.requires.field c.as_slice.ensures
 
 pub area_left-requires-clause-passed : goal.area_left-requires-clause-passed
 area_left-requires-clause-passed c = λ d. c.loop-i.invariant.passed c.loop-i.i d (omega arith) (omega arith)

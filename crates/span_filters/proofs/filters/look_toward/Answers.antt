@@ -11,7 +11,9 @@ use Rattle.span_filters.proofs.filters.look_toward.Goals as goal
 
 pub returns-clause-seen : goal.returns-clause-seen
 returns-clause-seen c =
+    let post = c.args.post.now in
     c.look.ensures
-    ∙ ap (λ column. seen_over c.args.post.stand.now c.args.seen (gaps_of (filter (is_in column) c.args.post.spans.now))) c.column_beside-column.ensures
-    ∙ ap (λ (xs : List Span). seen_over c.args.post.stand.now c.args.seen (gaps_of xs))
-    (spans_toward (number c.args.dir) c.args.post.spans.now c.args.post.span.now (number-below c.args.dir) c.requires.spans c.requires.span)
+    ∙ ap (λ column. seen_over post.stand.now c.args.seen.now (gaps_of (filter (is_in column) post.list.spans.now)))
+    (c.column_beside-column.ensures post.span.now c.requires.column)
+    ∙ ap (λ (xs : List Span). seen_over post.stand.now c.args.seen.now (gaps_of xs))
+    (spans_toward (number c.args.dir) post.list.spans.now post.span.now (number-below c.args.dir) c.requires.list.rules c.requires.span)

@@ -1,21 +1,31 @@
-use Rattle.std.proofs.Common.{◌-◌, ◌∙◌, Some, ap, sym, arith}
+use Rattle.std.proofs.Common.{◌-◌, ◌∙◌, ◌<◌, Some, length, ap, arith}
 use Rattle.nav_ground.specs.declared.field.Span.{Span}
-use Rattle.span_filters.specs.Columns.{column_of}
 use Rattle.span_filters.proofs.Neighbours.{floor_last_at, floor_none_at}
-use Rattle.span_filters.proofs.ReadSpans.{largest_read}
+use Rattle.span_filters.proofs.ReadSpans.{start_read}
 use Rattle.span_filters.proofs.gaps.floor_over.Goals as goal
 
-pub column_of-requires : goal.column_of-requires
-column_of-requires c =
-    largest_read c.args.spans.now (c.args.passed - 1) c.index-spans-passed.result c.requires.spans (omega (arith, c.requires.passed.most)) c.index-spans-passed.is
+-- no span begins here
+abbrev no_span : Span
+no_span = record { x = 0; z = 0; bottom = 0; top = 0; area = 0 }
 
-pub returns-then-column_of-column : goal.returns-then-column_of-column
-returns-then-column_of-column c =
-    ap Some (c.top.ensures ∙ ap (λ (span : Span). span.top) c.index-spans-passed.is)
-    ∙ floor_last_at c.args.spans.now c.args.passed (c.args.passed - 1) c.args.column c.index-spans-passed.result (omega arith) c.requires.passed.most
-    (ap column_of (sym c.index-spans-passed.is) ∙ sym c.column_of.ensures ∙ c.if-column_of-column.true)
+pub returns-then-list-passed : goal.returns-then-list-passed
+returns-then-list-passed c =
+    let spans = c.args.list.spans.now in
+    let m = c.args.passed - 1 in
+    let there : m < length spans = omega (arith, c.requires.passed.most, c.if-passed-eq0.false) in
+    let begins = start_read spans c.args.list.starts.now m 0 no_span c.requires.list.places there in
+    floor_none_at spans c.args.passed m c.args.column no_span (omega (arith, c.if-passed-eq0.false)) c.requires.list.rules c.requires.passed
+    (λ same. omega (arith, same, begins, c.if-list-passed.true, c.place_of.ensures))
 
-pub returns-else-column_of-column : goal.returns-else-column_of-column
-returns-else-column_of-column c =
-    floor_none_at c.args.spans.now c.args.passed (c.args.passed - 1) c.args.column c.index-spans-passed.result (omega arith) c.requires.spans c.requires.passed
-    (λ same. c.if-column_of-column.false (c.column_of.ensures ∙ ap column_of c.index-spans-passed.is ∙ same))
+pub returns : goal.returns
+returns c =
+    let spans = c.args.list.spans.now in
+    let m = c.args.passed - 1 in
+    let there : m < length spans = omega (arith, c.requires.passed.most, c.if-passed-eq0.false) in
+    let span : Span = c.index-list-passed.result in
+    let begins = start_read spans c.args.list.starts.now m 0 span c.requires.list.places there in
+    let before = c.requires.passed.before m span (omega (arith, c.if-passed-eq0.false)) in
+    let rules' = c.requires.list.rules.each m span there in
+    ap Some c.top.ensures
+    ∙ floor_last_at spans c.args.passed m c.args.column span (omega (arith, c.if-passed-eq0.false)) c.requires.passed.most
+    (omega (arith, begins, before, c.if-list-passed.false, c.place_of.ensures, rules'.solid, rules'.top))
