@@ -9,3 +9,5 @@ pub mod Built
 pub mod Published
 pub mod Shown
 pub mod Awaited
+pub mod Grounds
+pub mod Resting

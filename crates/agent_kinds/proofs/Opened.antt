@@ -1,9 +1,10 @@
 -- The states of kinds that were opened.
-use Rattle.std.proofs.Common.{◌≡◌, ℕ, ◌+◌, ◌<◌, List, [], ◌∷◌, ◌++◌, length, get_or, take, ap, ◌∙◌, sym, arith}
+use Rattle.std.proofs.Common.{◌≡◌, ℕ, ◌<◌, List, [], ◌∷◌, ◌++◌, length, get_or, map, refl, ap, ◌∙◌, sym, arith}
 use Rattle.std.specs.Prelude.{All}
-use Rattle.std.proofs.lemmas.List.{get_or-map, length-map, map_more}
+use Rattle.std.proofs.lemmas.List.{append_assoc, append-nil, get_or-map, length-map}
 use Rattle.std.proofs.lemmas.List.Elements.{Contains-get_or}
 use Rattle.nav_ground.specs.declared.field.Field.{Field}
+use Rattle.nav_ground.specs.declared.history.Ground.{Ground}
 use Rattle.nav_ground.specs.declared.setting.Setting.{Setting}
 use Rattle.build_queue.specs.BookState.{BookState, IsBook, first_state}
 use Rattle.nav_book.specs.Openings.{ground_of}
@@ -37,11 +38,23 @@ pub opened_kinds : (settings : List Setting) (field : Field) → AreKindSettings
 opened_kinds [] field are rules = absurd (omega (arith, are.some))
 opened_kinds (first ∷ more) field are rules = by_default first (first ∷ more) field are rules
 
--- one level more
-pub opened_more : (settings : List Setting) (field copy : Field) (i : ℕ) (d : Setting) (levels : List BookState) (level : BookState)
-    → levels ≡ first_kinds (take i settings) field → i < length settings → copy ≡ field → level ≡ first_state (ground_of (get_or settings i d) copy)
-    → levels ++ level ∷ [] ≡ first_kinds (take (i + 1) settings) field
-opened_more settings field copy i d levels level before there same is =
-    let opened : Setting → BookState = λ (setting : Setting). first_state (ground_of setting field) in
-    let made : level ≡ opened (get_or settings i d) = is ∙ ap (λ (f : Field). first_state (ground_of (get_or settings i d) f)) same in
-    (λ j. before j ++ made j ∷ []) ∙ sym (map_more opened settings i d there)
+-- one ground more that is opened
+pub one_opened : (grounds : List Ground) (levels more : List BookState) (rest next : List Ground) (ground : Ground) (level : BookState)
+    → more ≡ levels ++ level ∷ [] → level ≡ first_state ground → rest ≡ ground ∷ next → levels ++ map first_state rest ≡ map first_state grounds
+    → more ++ map first_state next ≡ map first_state grounds
+one_opened grounds levels more rest next ground level pushed is step before =
+    ap (λ (xs : List BookState). xs ++ map first_state next) (pushed ∙ ap (λ (s : BookState). levels ++ s ∷ []) is)
+    ∙ append_assoc levels (first_state ground ∷ []) (map first_state next)
+    ∙ ap (λ (xs : List Ground). levels ++ map first_state xs) (sym step)
+    ∙ before
+
+-- no ground is left
+pub all_opened : (grounds : List Ground) (levels : List BookState) (rest : List Ground) → rest ≡ []
+    → levels ++ map first_state rest ≡ map first_state grounds → levels ≡ map first_state grounds
+all_opened grounds levels rest none made =
+    sym (append-nil levels) ∙ ap (λ (xs : List Ground). levels ++ map first_state xs) (sym none) ∙ made
+
+-- the levels of the grounds of settings are the first kinds
+pub opened_over : (settings : List Setting) (field : Field) → map first_state (map (λ (setting : Setting). ground_of setting field) settings) ≡ first_kinds settings field
+opened_over [] field = refl
+opened_over (setting ∷ more) field = ap (λ (xs : List BookState). first_state (ground_of setting field) ∷ xs) (opened_over more field)

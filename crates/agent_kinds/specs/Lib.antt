@@ -3,3 +3,4 @@ pub mod Firsts
 pub mod KindSteps
 pub mod KindOpenings
 pub mod Representation
+pub mod KindGrounds

@@ -13,19 +13,23 @@ ghost use Rattle.nav_book.specs.LevelResults.{published_mesh};
 ghost use Rattle.nav_book.specs.Openings.{ground_of};
 ghost use Rattle.nav_book.specs.Settling.{after_settle, after_step};
 ghost use Rattle.agent_kinds.specs.Firsts.{at_found, at_kind, first_awaited, first_claimable, first_job};
+ghost use Rattle.live_ground.specs.Changes.{AreSameOutside};
+ghost use Rattle.agent_kinds.specs.KindGrounds.{AreSameBeyond, after_change};
 ghost use Rattle.agent_kinds.specs.Kinds.{AreKinds};
 ghost use Rattle.agent_kinds.specs.KindOpenings.{AreKindSettings, first_kinds};
 ghost use Rattle.agent_kinds.specs.KindSteps.{IsMeshOfKind, IsTileOfKind, after_publish_all, publication_by};
 
 use crate::builds::{claim_first, put_back_to, step_first, submit_to};
+use crate::ground::change_grounds;
 use crate::levels::{aim_all, length_shown, put_back_all, renew_all, request_all};
 use crate::opening::levels_of;
 use crate::publish::{KindsPublished, publish_kinds};
 use crate::settle::settle_all;
+use live_ground::KeptField;
 use mesh_types::TileMesh;
 use nav_base::Steps;
 use nav_book::{HistoryFull, Job, Level, Submitted};
-use nav_ground::{Field, Reply, Request, Setting, TileNo};
+use nav_ground::{Field, Reply, Request, Setting, TileNo, Window};
 use nav_lists::{Items, Shared};
 use std::alloc::{AllocError, Global};
 use std::marker::Model;
@@ -51,7 +55,7 @@ impl Model for Kinds {
 
 impl Kinds {
     /// The kinds of these settings over a field, each as a level that is opened alone. They may differ in the agent, the tiles and the costs. The
-    /// field is copied for each, and the copy is let go on the way. It takes one step a tile of each.
+    /// cells of the field are made once for agents of one height and climb. It takes one step a tile of each.
     pub fn begin<L: Ledger>(
         alloc: Global,
         settings: &[Setting],
@@ -182,6 +186,28 @@ impl Kinds {
         ensures rules { AreKinds self.new }
     {
         renew_all(self.levels.as_mut_slice(), alloc)
+    }
+
+    /// Changes the ground of all kinds to that of another field, which differs from theirs in the columns of a rectangle alone: obstacles and entries
+    /// stay, no tile is claimed then, and each kind shows from then on what a level that is opened over the field for it alone shows with the published
+    /// entries. The tiles in reach of the rectangle are built, with one step each; all others stay. It comes where all that was aimed at is published,
+    /// which a publish would answer by `Same`; else nothing changes, and the answer is what a publish would be answered. Where memory is refused, nothing
+    /// has changed in any kind.
+    pub fn change_ground<L: Ledger>(
+        &mut self,
+        alloc: Global,
+        field: &KeptField,
+        window: Window,
+        steps: &mut Steps<L>,
+    ) -> Result<KindsPublished, AllocError>
+        requires field { All (λ (state : BookState). AreSameOutside window state.ground.field field.now) self.old }
+        ensures answer { IfOk result (λ told. All (λ (state : BookState). told ≡ publication_by (first_awaited self.old) state) self.old) }
+        ensures state { OnOk result (self.new ≡ after_change field.now self.old) }
+        ensures differ { AllZip (AreSameBeyond window) self.old self.new }
+        ensures refused { OnErr result (self.new ≡ self.old) }
+        ensures rules { AreKinds self.new }
+    {
+        change_grounds(self.levels.as_mut_slice(), alloc, field, window, steps)
     }
 
     /// How many kinds there are.

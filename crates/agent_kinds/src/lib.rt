@@ -9,10 +9,15 @@
 //! `step` and `claim` build in the least kind in which a tile can be claimed; a build is handed in to the kind that was told. `settle` builds and
 //! publishes all that is asked for; where memory is refused, each kind shows what it showed.
 //!
+//! `change_ground` puts other spans into a rectangle of columns, in all kinds or in none, once all that was aimed at is published. Each kind then
+//! shows what a level opened over the new field shows with the published entries; tiles out of the rectangle's reach stay.
+//!
 //! `opening`: the levels of a field. `levels`: what is done in each level. `builds`: what is done in one. `publish`: what is shown. `settle`: all of it.
+//! `ground`: the ground changed.
 #![tactic(auto)]
 
 mod builds;
+mod ground;
 mod kinds;
 mod levels;
 mod opening;

@@ -39,7 +39,7 @@ fn first_awaited(levels: &mut [Level]) -> Option<(usize, TileNo)>
 }
 
 /// What a publish is answered now. Nothing that a caller sees has changed.
-fn publication(levels: &mut [Level]) -> KindsPublished
+pub(crate) fn publication(levels: &mut [Level]) -> KindsPublished
     requires kinds { AreKinds levels.old }
     ensures answer { All (λ (state : BookState). result ≡ publication_by (first_awaited levels.old) state) levels.old }
     ensures same { levels.new ≡ levels.old }

@@ -135,6 +135,28 @@ kept_claims inside waiting kept same each = record {
   awaited = λ tile there. ap (λ (flags : List Bool). flag_of flags tile) same ∙ kept.awaited tile there;
 }
 
+-- over another ground of the same setting all is kept
+pub kept_ground : (inside other : Inside) → IsKept inside → IsGround (arc_value other.ground)
+    → (arc_value other.ground).setting ≡ (arc_value inside.ground).setting → IsKept (record inside { ground = other.ground })
+kept_ground inside other kept rules same = record {
+  ground = rules;
+  history = rw same kept.history;
+  room = kept.room;
+  table = kept.table;
+  few = rw same kept.few;
+  live_room = rw same kept.live_room;
+  aims = kept.aims;
+  shows = kept.shows;
+  shapes = kept.shapes;
+  aimed_room = rw same kept.aimed_room;
+  lists = rw same kept.lists;
+  marks = rw same kept.marks;
+  flags = rw same kept.flags;
+  claims = rw same kept.claims;
+  clean = rw same kept.clean;
+  awaited = rw same kept.awaited;
+}
+
 -- a list is taken where its tile's flag is set and it has the shapes that touch the tile
 pub is_taken_is : (inside : Inside) (tile : ℕ) (shapes : List Shape) (flag same : Bool) → IsKept inside → tile < tile_count (arc_value inside.ground).setting
     → flag_of inside.waiting.awaited tile ≡ flag → are_same shapes (touching_shapes (arc_value inside.ground).setting tile inside.aimed.items) ≡ same

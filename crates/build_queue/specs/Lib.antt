@@ -10,3 +10,4 @@ pub mod Awaiting
 pub mod Representation
 pub mod Renewal
 pub mod StepContracts
+pub mod GroundSteps

@@ -6,6 +6,7 @@ ghost use Rattle.nav_ground.specs.Grounds.{IsGround};
 ghost use Rattle.nav_ground.specs.History.{IsHistory, IsRequest, alive_after, history_limit, shapes_alive};
 ghost use Rattle.nav_ground.specs.Tiling.{tile_count};
 ghost use Rattle.build_queue.specs.BookState.{IsBook, first_state, least_awaited};
+ghost use Rattle.build_queue.specs.GroundSteps.{IsGroundFor, IsGroundStep};
 ghost use Rattle.build_queue.specs.Renewal.{AddsAgain, IsAllShown};
 ghost use Rattle.build_queue.specs.StepContracts.{IsAimStep, IsClaimStep, IsPutBackAllStep, IsPutBackStep, IsRenewStep, IsRequestStep, IsShowStep, IsSubmitStep};
 ghost use Rattle.build_queue.specs.Steps;
@@ -234,6 +235,16 @@ impl BuildQueue {
         let count = self.live.len() as u32;
         self.target = count;
         self.published = count;
+        self.waiting.release_all();
+    }
+
+    /// Puts another ground of the same setting in the place of the ground: the history, what is aimed at and published, and the stored lists stay,
+    /// and no tile is claimed then. It takes no memory.
+    pub fn show_ground(&mut self, ground: Arc<Ground>)
+        requires { IsGroundFor self.old.ground (arc_value ground) }
+        ensures { IsGroundStep self.old self.new (arc_value ground) }
+    {
+        self.ground = ground;
         self.waiting.release_all();
     }
 

@@ -1,4 +1,5 @@
 pub mod TilePlaces
+pub mod SharedCells
 pub mod PlacesFound
 pub mod KeptNeighbours
 pub mod FieldCells

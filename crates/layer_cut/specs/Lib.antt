@@ -1,3 +1,4 @@
 pub mod Tiles
+pub mod SharedCells
 pub mod Neighbours
 pub mod Nearby

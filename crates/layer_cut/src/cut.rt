@@ -1,6 +1,7 @@
 //! From a field to its layers: the filters, the cells, the kept cells, and the cut into tiles.
 
 ghost use Rattle.std.specs.Prelude.{◌≡◌, ◌<◌, IfOk, All};
+ghost use Rattle.nav_ground.specs.declared.field.Field.{Field};
 ghost use Rattle.nav_ground.specs.Cells.{IsCompact};
 ghost use Rattle.nav_ground.specs.Fields.{IsField};
 ghost use Rattle.nav_ground.specs.Grounds.{IsSized, IsGround, IsLayerOf, IsWideWithin};
@@ -13,7 +14,7 @@ use crate::neighbours::field_near;
 use crate::tile_layers::{cut, hand_out};
 use agent_erode::kept_marks;
 use compact_layer::{CompactField, compact};
-use nav_ground::{Field, Ground, Layer, PastField, Setting, TileNo, tile_bounds};
+use nav_ground::{Field, Ground, Layer, PackedCell, PastField, Setting, TileNo, tile_bounds};
 use nav_lists::{Items, Shared};
 use span_filters::filtered;
 use std::alloc::{AllocError, Global};
@@ -97,8 +98,22 @@ fn layers(alloc: Global, setting: &Setting, field: Field) -> Result<Vec<Layer>, 
 {
     let compact = last_cells(alloc, setting, field)?;
     let shared = Shared::new(alloc, compact.cells)?;
-    let marks = kept_marks(alloc, shared.get().as_slice(), setting.agent.radius)?;
-    hand_out(alloc, setting, &shared, marks.as_slice())
+    layers_over(alloc, setting, &shared)
+}
+
+/// The layers of all tiles, in order, from the cells of the whole field.
+pub(crate) fn layers_over(
+    alloc: Global,
+    setting: &Setting,
+    cells: &Shared<Items<PackedCell>>,
+) -> Result<Vec<Layer>, AllocError>
+    requires setting { IsSetting setting.now }
+    requires cells { IsCompact cells.now }
+    requires inside { AreInField setting.now cells.now }
+    ensures { (field : Field) → cells.now ≡ cells_of setting.now field → IfOk result (λ layers. layers.items ≡ layers_of setting.now field) }
+{
+    let marks = kept_marks(alloc, cells.get().as_slice(), setting.agent.radius)?;
+    hand_out(alloc, setting, cells, marks.as_slice())
 }
 
 /// The cells of a field, whose spans are let go at the end.
@@ -114,7 +129,11 @@ fn last_cells(alloc: Global, setting: &Setting, field: Field) -> Result<CompactF
 }
 
 /// The cells of a field, on the spans that the filters leave walkable.
-fn cells(alloc: Global, setting: &Setting, field: &Field) -> Result<CompactField, AllocError>
+pub(crate) fn cells(
+    alloc: Global,
+    setting: &Setting,
+    field: &Field,
+) -> Result<CompactField, AllocError>
     requires setting { IsSetting setting.now }
     requires field { IsField field.now }
     requires sized { IsSized setting.now field.now }

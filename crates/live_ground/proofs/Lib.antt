@@ -3,3 +3,4 @@ pub mod Ordered
 pub mod Windows
 pub mod Merges
 pub mod Changed
+pub mod Reached

@@ -1,11 +1,12 @@
 -- Changes: a field with other spans in the columns of a rectangle, and the tiles whose layers that may change.
 use Rattle.std.specs.Prelude.{◌≡◌, ℕ, ◌+◌, pos, ◌≤ℤ◌, ◌<ℤ◌, Bool, not, List, filter, All, AllPairs}
+use Rattle.std.specs.List.{range_with_len}
 use Rattle.nav_ground.specs.declared.cell.Window.{Window}
 use Rattle.nav_ground.specs.declared.field.Span.{Span}
 use Rattle.nav_ground.specs.declared.field.Field.{Field}
 use Rattle.nav_ground.specs.declared.setting.Setting.{Setting}
 use Rattle.nav_ground.specs.Fields.{IsField, IsSpan, IsSpanBefore}
-use Rattle.nav_ground.specs.Tiling.{tile_window, widened, is_in_window, IsInWindow}
+use Rattle.nav_ground.specs.Tiling.{tile_count, tile_window, widened, is_in_window, IsInWindow}
 use Rattle.nav_ground.specs.Touching.{are_meeting}
 use Rattle.layer_cut.specs.Nearby.{spans_in}
 
@@ -48,3 +49,7 @@ reach_of setting = setting.agent.radius + 2
 -- a tile is in reach of a rectangle: one of its columns lies in it or so near it
 abbrev pub is_in_reach : Setting → Window → ℕ → Bool
 is_in_reach setting window tile = are_meeting (widened window (reach_of setting)) (tile_window setting tile)
+
+-- the tiles in reach of a rectangle, in order
+abbrev pub reached_tiles : Setting → Window → List ℕ
+reached_tiles setting window = filter (is_in_reach setting window) (range_with_len 0 (tile_count setting))

@@ -13,4 +13,4 @@ mod reach;
 
 pub use ground::changed_ground;
 pub use kept_field::{ChangeRefusal, KeptField};
-pub use reach::is_in_reach;
+pub use reach::{is_in_reach, reached_tiles};

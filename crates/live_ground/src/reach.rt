@@ -1,12 +1,14 @@
 //! Which tiles a change of spans may change.
 
-ghost use Rattle.std.specs.Prelude.{◌≡◌, ◌+ℤ◌, ◌-ℤ◌, ◌<◌, pos};
+ghost use Rattle.std.specs.Prelude.{◌≡◌, ◌+ℤ◌, ◌-ℤ◌, ◌<◌, IfOk, pos};
 ghost use Rattle.nav_ground.specs.Limits.{IsSetting};
 ghost use Rattle.nav_ground.specs.Tiling.{tile_count};
 ghost use Rattle.nav_ground.specs.Touching.{are_overlapping};
 ghost use Rattle.live_ground.specs.Changes;
 
-use nav_ground::{Setting, TileNo, Window, tile_bounds};
+use nav_ground::{Setting, TileNo, Window, tile_bounds, tiles};
+use nav_lists::Items;
+use std::alloc::{AllocError, Global};
 
 /// Whether a tile is in reach of a rectangle of columns: within the agent's radius and two columns of it. The layers of all other tiles stay
 /// where the spans in the rectangle change. The radius is for the walks to a cell and its neighbours across the border, the two more are
@@ -20,6 +22,24 @@ pub fn is_in_reach(setting: &Setting, window: Window, tile: TileNo) -> bool
     let tile = tile_bounds(setting, tile);
     is_reaching(window.x0, window.x1, reach, tile.x0, tile.x1)
         && is_reaching(window.z0, window.z1, reach, tile.z0, tile.z1)
+}
+
+/// The tiles in reach of a rectangle, in order of their numbers.
+pub fn reached_tiles(
+    alloc: Global,
+    setting: &Setting,
+    window: Window,
+) -> Result<Items<TileNo>, AllocError>
+    requires { IsSetting setting.now }
+    ensures { IfOk result (λ reached. reached ≡ Changes.reached_tiles setting.now window) }
+{
+    let mut reached = Vec::new(alloc);
+    for tile in 0..tiles(setting) {
+        if is_in_reach(setting, window, tile) {
+            reached.push(tile)?;
+        }
+    }
+    Ok(Items::from_vec(reached))
 }
 
 /// Whether a range with so many more numbers on each side overlaps another range.

@@ -47,7 +47,7 @@ found_at (Some mesh ∷ places) first (suc t) there =
     ∙ subst (λ n. new_tile (news_from (first + 1) places) n ≡ get_or places t None) moved (found_at places (first + 1) t (omega (arith, there)))
 
 -- what holds of each place that has a mesh holds of the new meshes
-all_from : (P : New → Type 0) (places : List (Option TileMesh)) (first : ℕ)
+pub all_from : (P : New → Type 0) (places : List (Option TileMesh)) (first : ℕ)
     → ((t : ℕ) (mesh : TileMesh) → t < length places → get_or places t None ≡ Some mesh → P (first + t, mesh)) → All P (news_from first places)
 all_from P [] first each = All-nil P
 all_from P (None ∷ places) first each =

@@ -7,6 +7,7 @@ pub mod FreshTiles
 mod FreshLists
 pub mod StoredTiles
 pub mod KeptTiles
+pub mod NextGrounds
 pub mod Settled
 pub mod Differing
 pub mod StepLaws

@@ -45,7 +45,7 @@ AreTouching ground shapes stored = (t : ℕ) → t < tile_count ground.setting �
 
 module _ (ground : Ground) (shapes : List Shape) (stored : List (List Shape)) (rules' : IsGround ground) (touching : AreTouching ground shapes stored) where
   -- then a tile's mesh under its stored list is that under all the shapes
-  stored_tile : (t : ℕ) (d : TileMesh) → t < tile_count ground.setting
+  pub stored_tile : (t : ℕ) (d : TileMesh) → t < tile_count ground.setting
       → tile_under ground t (get_or stored t []) ≡ get_or (tiles_under ground shapes) t d
   stored_tile t d there =
       ap (tile_under ground t) (touching t there) ∙ touched_tile ground shapes t rules' there ∙ sym (get_or-tiles_under ground shapes t d rules' there)

@@ -8,3 +8,4 @@ pub mod Openings
 pub mod Settling
 pub mod CallContracts
 pub mod Remembered
+pub mod GroundChanges

@@ -32,10 +32,10 @@ use std::sync::{Arc, Wait};
 /// A level of a ground, and the press that shows each mesh which the level publishes to eyes. It is not `Drop`, since its press is not:
 /// `end` ends it.
 ///
-/// Contracts see its state, of which each call is a step, and the pair of its press and its eyes, which no call but `renew` changes.
+/// Contracts see its state, of which each call is a step, and the pair of its press and its eyes, which no call but `renew` and `show_ground` changes.
 pub struct Book {
-    level: Level,
-    press: Press,
+    pub(crate) level: Level,
+    pub(crate) press: Press,
 }
 
 impl Model for Book {

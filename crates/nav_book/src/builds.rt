@@ -22,11 +22,9 @@ use std::marker::Model;
 use std::sync::Arc;
 use std::sync::ledger::Ledger;
 
-/// How many builds are remembered: as many as there are tiles, but no fewer and no more than these. A door seldom touches more than four tiles,
-/// and asks for two builds of each: so there is room for the doors of a level that open and close in turn.
-const LEAST_ROOM: usize = 32;
-
-const MOST_ROOM: usize = 256;
+/// How many builds are remembered. A door seldom touches more than four tiles, and asks for two builds of each; and where things come and go, a
+/// tile is soon asked for again as it was before one came. So there is room for some dozens of them.
+const ROOM: usize = 256;
 
 /// Only builds that are no larger than these are remembered: of so many cells of the tile's layer, so many polygons and links between them,
 /// under so many shapes. Such a build takes a quarter of a MB at most, and some ten KB where a tile has 32 columns a side.
@@ -77,6 +75,15 @@ impl BuildCache {
             builds: Vec::new(alloc),
             next: 0,
         }
+    }
+
+    /// Another ground, with no builds yet. It takes no memory.
+    pub(crate) fn show_ground(&mut self, level: Arc<Ground>)
+        ensures { self.new ≡ arc_value level }
+    {
+        self.builds.clear();
+        self.next = 0;
+        self.level = level;
     }
 
     /// The mesh of a job's tile under the job's shapes, built anew. It is remembered from then on where it is small and memory for that is left.
@@ -151,7 +158,7 @@ impl BuildCache {
             },
             mesh: mesh.share()?,
         };
-        let place = self.next % self.room();
+        let place = self.next % ROOM;
         if place < self.builds.len() {
             self.builds[place] = build;
         } else {
@@ -159,18 +166,6 @@ impl BuildCache {
         }
         self.next = place + 1;
         Ok(())
-    }
-
-    /// How many builds there is room for.
-    fn room(&self) -> usize
-        ensures least { 1 ≤ result }
-        ensures most { result ≤ 256 }
-    {
-        self.level
-            .layers
-            .as_slice()
-            .len()
-            .clamp(LEAST_ROOM, MOST_ROOM)
     }
 }
 

@@ -38,12 +38,12 @@ use tile_links::{joined, replaced};
 /// Contracts see its state, of which each call is a step.
 #[derive(Drop)]
 pub struct Level {
-    queue: BuildQueue,
+    pub(crate) queue: BuildQueue,
     /// The tile meshes that are stored and not published yet.
-    fresh: NewMeshes,
-    mesh: PublishedMesh,
+    pub(crate) fresh: NewMeshes,
+    pub(crate) mesh: PublishedMesh,
     /// The ground, with the builds that the level itself made last.
-    builds: BuildCache,
+    pub(crate) builds: BuildCache,
 }
 
 impl Model for Level {

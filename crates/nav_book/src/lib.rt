@@ -24,10 +24,12 @@
 mod book;
 mod builds;
 mod level;
+mod next_ground;
 mod settle;
 mod shown;
 
 pub use book::{Book, TileResult};
 pub use build_queue::{HistoryFull, Job, Published, Submitted};
 pub use level::Level;
+pub use next_ground::NextGround;
 pub use settle::build_job;
