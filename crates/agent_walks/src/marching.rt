@@ -124,12 +124,13 @@ fn along(
     let at = nth_polygon(found.first, links, place);
     let y = floor_of(mesh, at);
     let passed = cost(mesh, first_links(links, place));
+    let left = links_from(alloc, links, place)?;
     Ok(WalkAnswer::Walking {
         at,
         point: stop.point,
         y,
         cost: found.cost - passed,
-        links: links_from(found.links, place),
+        links: left,
     })
 }
 
@@ -168,15 +169,15 @@ pub(crate) fn cost(mesh: &Mesh, links: &[Link]) -> u64
 }
 
 /// The links from a place on.
-pub(crate) fn links_from(links: Items<Link>, place: usize) -> Items<Link>
-    requires { place ≤ length links }
-    ensures { result ≡ drop place links }
+pub(crate) fn links_from(
+    alloc: Global,
+    links: &[Link],
+    place: usize,
+) -> Result<Items<Link>, AllocError>
+    requires { place ≤ length links.now }
+    ensures { IfOk result (λ left. left ≡ drop place links.now) }
 {
-    let mut left = links.into_vec();
-    let count = left.len() - place;
-    left.rotate_left(place);
-    left.truncate(count);
-    Items::from_vec(left)
+    Ok(Items::from_vec(Vec::from_slice(alloc, &links[place..])?))
 }
 
 /// Where a march ends that goes along a line for a length.

@@ -1,6 +1,6 @@
 -- The scan of a cell, of a row, of a storey, of a polygon: what is looked at is all that can be nearer than what was found.
 use Rattle.std.proofs.Common.{◌≡◌, ℕ, ◌+◌, ◌-◌, ◌*◌, ◌≤◌, ◌<◌, pos, ◌≤ℤ◌, ◌+ℤ◌, ◌-ℤ◌, ℤ, ◌⊎◌, inl, inr, true, false, List, [], length, get_or, refl, sym, ap, subst, ◌∙◌, arith}
-use Rattle.std.specs.Prelude.{All, Some, None, min, max, slice_get, unsigned_abs}
+use Rattle.std.specs.Prelude.{All, Option, Some, None, min, max, slice_get, unsigned_abs}
 use Rattle.std.proofs.lemmas.Bool.{cases_lt, true≢false}
 use Rattle.std.proofs.lemmas.Int.{ints, by_lt_z}
 use Rattle.std.proofs.lemmas.Nat.{mul-le}
@@ -29,16 +29,16 @@ use Rattle.mesh_place.specs.declared.lines.LineSpan.{LineSpan}
 use Rattle.mesh_place.specs.declared.storey_scan.Around.{Around}
 use Rattle.mesh_place.specs.declared.storey_scan.NearSearch.{NearSearch}
 use Rattle.mesh_place.specs.declared.storey_scan.PolygonPart.{PolygonPart}
-use Rattle.mesh_place.specs.Bounds.{AddAtLeast, height_part}
+use Rattle.mesh_place.specs.Bounds.{AddAtLeast, IsBeyond, height_part}
 use Rattle.mesh_place.specs.Columns.{IsAmong, reach_ends}
 use Rattle.mesh_place.specs.Floors.{height_off}
 use Rattle.mesh_place.specs.Lines.{IsInSpan, IsItOrFarther, IsNearestOf, IsPartOf, point_on}
-use Rattle.mesh_place.specs.Nearest.{IsInReach, is_open}
+use Rattle.mesh_place.specs.Nearest.{IsInReach, is_open, off_by}
 use Rattle.mesh_place.specs.Searches.{IsHeightNear, IsCellOf, IsOverCell, IsLinePoint, IsHeldOnLine, IsOnLine, IsInLines, IsInRow, IsInRows, IsRowOf, IsSearch, IsWithin}
-use Rattle.mesh_place.specs.Searches.{IsPart, box_gap, cells_touched, columns_of, place_over, rows_of}
-use Rattle.mesh_place.proofs.SearchLaws.{IsLed}
+use Rattle.mesh_place.specs.Searches.{IsNotBefore, IsPart, box_gap, cells_touched, columns_of, place_over, rows_of}
+use Rattle.mesh_place.proofs.SearchLaws.{IsLed, beyond}
 use Rattle.mesh_place.proofs.Squares.{over_column, among_columns, among_touched, box_least, clamp_least, clamp_most, farther_across, farther_along, farther_both}
-use Rattle.mesh_place.proofs.Squares.{gap_of_point, size_bounds, within}
+use Rattle.mesh_place.proofs.Squares.{gap_least, gap_of_point, size_bounds, within}
 
 -- ---- a cell
 
@@ -422,6 +422,17 @@ pub far_box : (mesh : Mesh) (asked : Near) (polygons : List Polygon) (at : PolyR
     → Stands mesh other → other.polygon ≡ at → box_gap e asked.point ≤ square_of (from_to asked.point other.point)
 far_box mesh asked polygons at e listed are rules there other stands one =
     box_least e asked.point other.point (in_box mesh polygons at e listed are rules there other stands one)
+
+-- places over a cell that lies beyond what was found do not come before it
+pub over_beyond : (mesh : Mesh) (asked : Near) (part : PolygonPart) (cell : NearCell) (best : Option MeshPlace) (other : MeshPlace)
+    → IsBeyond mesh.setting.agent.climb asked (column_gap cell.x cell.z asked.point) (height_part mesh.setting.agent.climb asked (height_off asked.y cell.y)) best
+    → IsOverCell part cell other → IsInReach mesh asked other → IsNotBefore mesh.setting.agent.climb asked other best
+over_beyond mesh asked part cell best other far one near =
+    let high : height_part mesh.setting.agent.climb asked (height_off asked.y cell.y) ≤ height_part mesh.setting.agent.climb asked (off_by asked other) =
+    subst (λ (n : ℕ). height_part mesh.setting.agent.climb asked (height_off asked.y cell.y) ≤ height_part mesh.setting.agent.climb asked (height_off asked.y n))
+    (sym one.y) (omega arith) in
+    beyond mesh asked best (column_gap cell.x cell.z asked.point) (height_part mesh.setting.agent.climb asked (height_off asked.y cell.y)) other far
+    (gap_least cell.x cell.z asked.point other.point one.over) high near
 
 pub not_open : (mesh : Mesh) (asked : Near) (polygons : List Polygon) (at : PolyRef) (e : Extent) → poly_at mesh at ≡ slice_get polygons at.index
     → ((d : Polygon) → e ≡ extent_of (get_or polygons at.index d)) → is_open asked.areas e.area ≡ false → (other : MeshPlace)

@@ -17,13 +17,14 @@ use Rattle.mesh_types.specs.Places.{Stands, column_gap, outside, storey_at}
 use Rattle.mesh_types.specs.Storeys.{HasFloor, IsStorey}
 use Rattle.mesh_types.specs.WholeMesh.{poly_at}
 use Rattle.mesh_place.specs.declared.cells.NearCell.{NearCell}
+use Rattle.mesh_place.specs.declared.cells.RowLimit.{RowLimit}
 use Rattle.mesh_place.specs.declared.lines.LineSpan.{LineSpan}
 use Rattle.mesh_place.specs.declared.near.Near.{Near}
 use Rattle.mesh_place.specs.declared.storey_scan.Around.{Around}
 use Rattle.mesh_place.specs.declared.storey_scan.NearSearch.{NearSearch}
 use Rattle.mesh_place.specs.declared.storey_scan.PolygonPart.{PolygonPart}
-use Rattle.mesh_place.specs.Columns.{IsAmong, columns_around, columns_touched}
-use Rattle.mesh_place.specs.Nearest.{CanAskNear, IsInReach, is_open, place_cmp}
+use Rattle.mesh_place.specs.Columns.{IsAmong, column_out, columns_around, columns_touched}
+use Rattle.mesh_place.specs.Nearest.{CanAskNear, IsInReach, is_open, measure, place_cmp}
 
 -- what was found stands and is in reach
 abbrev pub IsFound : Mesh → Near → Option MeshPlace → Type 0
@@ -39,6 +40,17 @@ IsNotBefore climb asked other (Some place) = place_cmp climb asked other place �
 abbrev pub comes_before : ℕ → Near → MeshPlace → Option MeshPlace → Bool
 comes_before climb asked other None = true
 comes_before climb asked other (Some place) = is_lt (place_cmp climb asked other place)
+
+-- the measure of what was found; a number that no measure reaches where nothing was
+abbrev pub measure_or_most : ℕ → Near → Option MeshPlace → ℕ
+measure_or_most climb asked None = 18446744073709551615
+measure_or_most climb asked (Some place) = measure climb asked place
+
+-- what the cells of a row, given by its z, are measured against: the measure of what was found before, and the square of how far the row is
+pub record IsRowLimit (climb : ℕ) (asked : Near) (z : ℕ) (limit : RowLimit) : Type 0 where
+  pub most : limit.most ≡ measure_or_most climb asked limit.earlier
+  pub aside : limit.aside ≡ column_out z asked.point.z * column_out z asked.point.z
+  pub bound : limit.aside ≤ 10000000000
 
 -- what is found after some places were looked at: it stands and is in reach, what came before none comes before this one, and none of those
 -- places does that stand and are in reach

@@ -8,16 +8,17 @@ ghost use Rattle.mesh_types.specs.Located.{Holds};
 ghost use Rattle.mesh_types.specs.Places.{column_gap};
 ghost use Rattle.mesh_types.specs.Soundness.{IsSound};
 ghost use Rattle.mesh_place.specs.Nearest.{CanAskNear};
-ghost use Rattle.mesh_place.specs.Bounds.{IsNearTo};
+ghost use Rattle.mesh_place.specs.Bounds.{IsBeyond, IsNearTo, height_part};
+ghost use Rattle.mesh_place.specs.Floors.{height_off};
 ghost use Rattle.mesh_place.specs.Lines.{IsInSpan, IsNearestOf, IsSpan};
 ghost use Rattle.mesh_place.specs.Searches.{IsFound, IsFoundNear, IsHeightNear, IsPart, IsCellOf, IsSearch, IsWithin};
-ghost use Rattle.mesh_place.specs.Searches.{IsNotBefore, IsOverCell, IsOnLine, IsHeldOnLine, columns_of, rows_of};
+ghost use Rattle.mesh_place.specs.Searches.{IsNotBefore, IsOverCell, IsOnLine, IsHeldOnLine, IsRowLimit, columns_of, rows_of};
 
 use crate::bounds::reach_left;
-use crate::columns::ends_along;
+use crate::columns::{ends_along, out_across};
 use crate::floors::height_off;
 use crate::lines::{LineSpan, held_part, nearest_across, nearest_along, point_on};
-use crate::near::{Near, comes_before, height_part, is_beyond, square_distance};
+use crate::near::{Near, comes_before, height_part, square_distance};
 use crate::storey_scan::{NearSearch, PolygonPart};
 use mesh_types::{Mesh, MeshPlace, Polygon, edge_ends, holds};
 use nav_base::{Point, orient};
@@ -30,6 +31,17 @@ pub struct NearCell {
     pub y: u32,
 }
 
+/// What the cells of a row are measured against before they are looked at.
+#[derive(Clone, Copy)]
+pub struct RowLimit {
+    /// What was found before the row.
+    pub earlier: Option<MeshPlace>,
+    /// Its measure; the greatest number where there is none.
+    pub most: u64,
+    /// The square of how far the row is from the point, along z.
+    pub aside: u64,
+}
+
 /// What was found, or a nearer place over a cell. Most cells are passed over by what was found before their row, whose measure is less than
 /// that of any place over them.
 pub(crate) fn in_near_cell(
@@ -37,31 +49,42 @@ pub(crate) fn in_near_cell(
     part: &PolygonPart,
     cell: NearCell,
     search: &NearSearch,
-    earlier: Option<MeshPlace>,
+    limit: &RowLimit,
     best: Option<MeshPlace>,
 ) -> Option<MeshPlace>
     requires sound { IsSound mesh.now }
     requires part { IsPart mesh.now search.now.asked part.now }
     requires cell { IsCellOf mesh.now part.now cell }
     requires search { IsSearch search.now }
-    requires earlier { IsFound mesh.now search.now.asked earlier }
+    requires limit { IsRowLimit mesh.now.setting.agent.climb search.now.asked cell.z limit.now }
+    requires earlier { IsFound mesh.now search.now.asked limit.now.earlier }
     requires best { IsFound mesh.now search.now.asked best }
-    requires kept { (other : MeshPlace) → IsNotBefore mesh.now.setting.agent.climb search.now.asked other earlier
+    requires kept { (other : MeshPlace) → IsNotBefore mesh.now.setting.agent.climb search.now.asked other limit.now.earlier
         → IsNotBefore mesh.now.setting.agent.climb search.now.asked other best }
     ensures { IsFoundNear mesh.now search.now best result (IsOverCell part.now cell) }
 {
     if !is_height_near(&search.asked, cell.y) {
         return best;
     }
-    let place = MeshPlace {
-        polygon: part.at,
-        point: nearest_over(cell, search.asked.point),
-        y: cell.y,
-    };
-    if is_beyond(mesh.setting.agent.climb, &search.asked, place, earlier) {
+    if is_cell_beyond(mesh.setting.agent.climb, &search.asked, cell, limit) {
         return best;
     }
     in_cell(mesh, part, cell, search, best)
+}
+
+/// Whether all places over a cell have a greater measure than what was found before its row.
+fn is_cell_beyond(climb: u32, asked: &Near, cell: NearCell, limit: &RowLimit) -> bool
+    requires asked { CanAskNear asked.now }
+    requires across { cell.x < 1024 }
+    requires near { IsHeightNear asked.now cell.y }
+    requires limit { IsRowLimit climb asked.now cell.z limit.now }
+    ensures { IsTrue result → IsBeyond climb asked.now (column_gap cell.x cell.z asked.now.point)
+        (height_part climb asked.now (height_off asked.now.y cell.y)) limit.now.earlier }
+{
+    let across = out_across(cell.x, asked.point);
+    let gap = across * across + limit.aside;
+    let high = height_part(climb, asked, height_off(asked.y, cell.y));
+    limit.most < gap + high
 }
 
 /// What was found, or a nearer place over a cell.

@@ -28,9 +28,29 @@ pub(crate) fn column_gap(x: u32, z: u32, p: Point) -> u64
     requires point { HasCoordinates p }
     ensures { result ≡ column_gap x z p }
 {
-    let across = u64::from(column_out(x, p.x));
-    let along = u64::from(column_out(z, p.z));
+    let across = out_across(x, p);
+    let along = out_along(z, p);
     across * across + along * along
+}
+
+/// How far a point lies outside a column across, in sixteenths.
+pub(crate) fn out_across(x: u32, p: Point) -> u64
+    requires across { x ≤ 1024 }
+    requires point { HasCoordinates p }
+    ensures value { result ≡ column_out x p.x }
+    ensures bound { result ≤ 100000 }
+{
+    u64::from(column_out(x, p.x))
+}
+
+/// How far a point lies outside a row of columns along, in sixteenths.
+pub(crate) fn out_along(z: u32, p: Point) -> u64
+    requires along { z ≤ 1024 }
+    requires point { HasCoordinates p }
+    ensures value { result ≡ column_out z p.z }
+    ensures bound { result ≤ 100000 }
+{
+    u64::from(column_out(z, p.z))
 }
 
 /// How far a coordinate lies outside a column, in sixteenths.

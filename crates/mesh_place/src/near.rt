@@ -7,7 +7,7 @@ ghost use Rattle.nav_base.specs.Deviation.{square_of};
 ghost use Rattle.nav_base.specs.Point.{HasCoordinates, from_to};
 ghost use Rattle.mesh_types.specs.LinkOrder.{poly_cmp, point_cmp};
 ghost use Rattle.mesh_place.specs.Nearest.{CanAskNear, is_open, measure, off_by, place_cmp};
-ghost use Rattle.mesh_place.specs.Searches.{IsMeasurable, comes_before};
+ghost use Rattle.mesh_place.specs.Searches.{IsMeasurable, comes_before, measure_or_most};
 ghost use Rattle.mesh_place.specs.Bounds.{height_part};
 
 use crate::floors::height_off;
@@ -67,17 +67,15 @@ pub(crate) fn comes_before(
     }
 }
 
-/// Whether a place has a greater measure than what was found.
-#[tactic(auto, using(crate::proofs::Earlier::more_measured))]
-pub(crate) fn is_beyond(climb: u32, asked: &Near, place: MeshPlace, best: Option<MeshPlace>) -> bool
+/// The measure of what was found; the greatest number where nothing was.
+pub(crate) fn measure_or_most(climb: u32, asked: &Near, best: Option<MeshPlace>) -> u64
     requires asked { CanAskNear asked.now }
-    requires first { IsMeasurable asked.now place }
-    requires second { IfSome best (IsMeasurable asked.now) }
-    ensures { IsTrue result → comes_before climb asked.now place best ≡ false }
+    requires best { IfSome best (IsMeasurable asked.now) }
+    ensures { result ≡ measure_or_most climb asked.now best }
 {
     match best {
-        None => false,
-        Some(best) => measure(climb, asked, best) < measure(climb, asked, place),
+        None => u64::MAX,
+        Some(best) => measure(climb, asked, best),
     }
 }
 

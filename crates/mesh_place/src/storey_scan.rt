@@ -1,15 +1,15 @@
 //! The places of a polygon, row by row of its storey and cell by cell, within a reach.
 
-ghost use Rattle.std.specs.Prelude.{◌≡◌, ◌<◌, ◌≤◌, ◌+◌, ◌-◌, get_or, Some, length, slice_get};
+ghost use Rattle.std.specs.Prelude.{◌≡◌, ◌<◌, ◌≤◌, ◌+◌, ◌-◌, get_or, IfSome, Some, length, slice_get};
 ghost use Rattle.mesh_types.specs.Places.{storey_at};
 ghost use Rattle.mesh_types.specs.Soundness.{IsSound};
 ghost use Rattle.mesh_types.specs.Storeys.{IsFloorRow, IsStorey};
 ghost use Rattle.mesh_place.specs.Nearest.{CanAskNear};
-ghost use Rattle.mesh_place.specs.Searches.{IsFound, IsFoundNear, IsSearch, IsPart, IsRowOf, IsInRow, around_of, cells_touched};
+ghost use Rattle.mesh_place.specs.Searches.{IsFound, IsFoundNear, IsSearch, IsMeasurable, IsPart, IsRowLimit, IsRowOf, IsInRow, around_of, cells_touched};
 
-use crate::cells::{NearCell, in_near_cell};
-use crate::columns::{ColumnRange, columns_around, columns_touched, rows_around};
-use crate::near::Near;
+use crate::cells::{NearCell, RowLimit, in_near_cell};
+use crate::columns::{ColumnRange, columns_around, columns_touched, out_along, rows_around};
+use crate::near::{Near, measure_or_most};
 use mesh_types::{Extent, FloorRow, Mesh, MeshPlace, PolyRef, Polygon, Storey};
 
 /// What is sought within a reach, in sixteenths of a cell, that is no greater than the one asked for.
@@ -121,12 +121,29 @@ fn in_row(
     let end = (row.x0 + row.floors.len() as u32).min(last + 1);
     let least = search.around.columns.first.max(part.touched.columns.first);
     let first = row.x0.max(least).min(end);
+    let limit = row_limit(mesh.setting.agent.climb, &search.asked, z, best);
     let mut nearest = best;
     for x in first..end {
         let y = floor_of(row, x);
-        nearest = in_near_cell(mesh, part, NearCell { x, z, y }, search, best, nearest);
+        nearest = in_near_cell(mesh, part, NearCell { x, z, y }, search, &limit, nearest);
     }
     nearest
+}
+
+/// What the cells of a row are measured against, where so much was found before it.
+fn row_limit(climb: u32, asked: &Near, z: u32, best: Option<MeshPlace>) -> RowLimit
+    requires asked { CanAskNear asked.now }
+    requires along { z < 1024 }
+    requires best { IfSome best (IsMeasurable asked.now) }
+    ensures limit { IsRowLimit climb asked.now z result }
+    ensures earlier { result.earlier ≡ best }
+{
+    let aside = out_along(z, asked.point);
+    RowLimit {
+        earlier: best,
+        most: measure_or_most(climb, asked, best),
+        aside: aside * aside,
+    }
 }
 
 /// The floor of a row's column.

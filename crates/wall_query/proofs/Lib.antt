@@ -1,6 +1,7 @@
 mod ListedThere
 mod FieldPoints
 mod ListLaws
+mod NumberLaws
 mod FirstLaws
 mod PartLaws
 mod WallLaws

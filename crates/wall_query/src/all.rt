@@ -1,6 +1,6 @@
 //! All walls around a place, in order.
 
-ghost use Rattle.std.specs.Prelude.{◌≡◌, IfOk};
+ghost use Rattle.std.specs.Prelude.{◌*◌, ◌+◌, ◌<◌, ◌≡◌, IfOk};
 ghost use Rattle.std.specs.List.Sorted.{IsPermutation};
 ghost use Rattle.mesh_types.specs.LinkOrder.{poly_cmp};
 ghost use Rattle.mesh_types.specs.Places.{IsPlace};
@@ -77,5 +77,13 @@ fn order_polygons(list: &mut Vec<PolyRef>)
 fn polygon_order(a: &PolyRef, b: &PolyRef) -> Ordering
     ensures { result ≡ poly_cmp a.now b.now }
 {
-    a.tile.cmp(&b.tile).then(a.index.cmp(&b.index))
+    number(a).cmp(&number(b))
+}
+
+/// A number by which polygons are in order: that of the tile, and behind it that of the polygon in 32 bits.
+fn number(at: &PolyRef) -> u64
+    ensures value { result ≡ at.now.tile * 4294967296 + at.now.index }
+    ensures small { at.now.index < 4294967296 }
+{
+    u64::from(at.tile) * 4294967296 + u64::from(at.index)
 }

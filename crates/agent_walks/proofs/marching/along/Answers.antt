@@ -1,4 +1,4 @@
-use Rattle.std.proofs.Common.{ℕ, ◌-◌, ap, sym, subst, ◌∙◌, arith}
+use Rattle.std.proofs.Common.{ℕ, ◌-◌, drop, ap, sym, subst, ◌∙◌, arith}
 use Rattle.std.specs.Prelude.{All}
 use Rattle.mesh_types.specs.Corridors.{IsLinkOf, cost_of}
 use Rattle.agent_walks.proofs.Arrivals as arrivals
@@ -40,12 +40,12 @@ pub returns-clause-marched : goal.returns-clause-marched
 returns-clause-marched c =
     arrivals.is_march c.args.mesh.now c.args.march.from.point c.args.march.from.y c.args.march.goal.point c.args.march.goal.y c.args.found c.requires.path c.requires.sound c.requires.setting
     c.as_slice-links.result.now c.as_slice-corners.result.now c.as_slice-links.ensures c.as_slice-corners.ensures c.args.march.length c.in_ok-stop.stop c.in_ok-stop.ensures
-    c.nth_polygon-at.result c.floor_of-y.result (c.args.found.cost - c.cost-passed.result) c.links_from.result c.nth_polygon-at.ensures c.floor_of-y.ensures
-    c.links_from.ensures (ap (λ (n : ℕ). c.args.found.cost - n) (c.cost-passed.ensures ∙ ap (cost_of c.args.mesh.now) c.first_links.ensures))
+    c.nth_polygon-at.result c.floor_of-y.result (c.args.found.cost - c.cost-passed.result) c.in_ok-left.left c.nth_polygon-at.ensures c.floor_of-y.ensures
+    (c.in_ok-left.ensures ∙ ap (drop c.in_ok-stop.stop.place) c.as_slice-links.ensures) (ap (λ (n : ℕ). c.args.found.cost - n) (c.cost-passed.ensures ∙ ap (cost_of c.args.mesh.now) c.first_links.ensures))
 
 pub returns-clause-way : goal.returns-clause-way
 returns-clause-way c =
     arrivals.is_on_way c.args.mesh.now c.args.march.from.point c.args.march.from.y c.args.march.goal.point c.args.march.goal.y c.args.found c.requires.path c.requires.sound c.requires.setting
     c.as_slice-links.result.now c.as_slice-corners.result.now c.as_slice-links.ensures c.as_slice-corners.ensures c.args.march.length c.in_ok-stop.stop c.in_ok-stop.ensures
-    c.nth_polygon-at.result c.floor_of-y.result (c.args.found.cost - c.cost-passed.result) c.links_from.result c.nth_polygon-at.ensures c.floor_of-y.ensures
-    c.links_from.ensures (ap (λ (n : ℕ). c.args.found.cost - n) (c.cost-passed.ensures ∙ ap (cost_of c.args.mesh.now) c.first_links.ensures))
+    c.nth_polygon-at.result c.floor_of-y.result (c.args.found.cost - c.cost-passed.result) c.in_ok-left.left c.nth_polygon-at.ensures c.floor_of-y.ensures
+    (c.in_ok-left.ensures ∙ ap (drop c.in_ok-stop.stop.place) c.as_slice-links.ensures) (ap (λ (n : ℕ). c.args.found.cost - n) (c.cost-passed.ensures ∙ ap (cost_of c.args.mesh.now) c.first_links.ensures))

@@ -1,8 +1,8 @@
-use Rattle.std.proofs.Common.{◌+◌, length, arith}
+use Rattle.std.proofs.Common.{◌+◌, length, sym, subst, arith}
 use Rattle.mesh_types.specs.declared.storeys.MeshPlace.{MeshPlace}
 use Rattle.mesh_place.specs.declared.cells.NearCell.{NearCell}
-use Rattle.mesh_place.specs.Searches.{IsInRow, IsOverCell, IsWithin}
-use Rattle.mesh_place.proofs.SearchLaws.{passed, more, fewer, either_within}
+use Rattle.mesh_place.specs.Searches.{IsFound, IsInRow, IsNotBefore, IsOverCell, IsWithin}
+use Rattle.mesh_place.proofs.SearchLaws.{found_measurable, passed, more, fewer, either_within}
 use Rattle.mesh_place.proofs.ScanLaws.{cell_of, before_columns, after_columns, next_column}
 use Rattle.mesh_place.proofs.storey_scan.in_row.Goals as goal
 
@@ -50,5 +50,14 @@ returns c =
       one.1,
     ))
 
+pub row_limit-limit-requires-clause-best : goal.row_limit-limit-requires-clause-best
+row_limit-limit-requires-clause-best c = found_measurable c.args.mesh.now c.args.search.now.asked c.args.best c.requires.sound c.requires.best
+
+pub in_near_cell-nearest-requires-clause-earlier : goal.in_near_cell-nearest-requires-clause-earlier
+in_near_cell-nearest-requires-clause-earlier c =
+    subst (IsFound c.args.mesh.now c.args.search.now.asked) (sym c.row_limit-limit.ensures.earlier) c.requires.best
+
 pub in_near_cell-nearest-requires-clause-kept : goal.in_near_cell-nearest-requires-clause-kept
-in_near_cell-nearest-requires-clause-kept c = c.loop-x.invariant.kept
+in_near_cell-nearest-requires-clause-kept c = λ other not.
+    c.loop-x.invariant.kept other
+    (subst (IsNotBefore c.args.mesh.now.setting.agent.climb c.args.search.now.asked other) c.row_limit-limit.ensures.earlier not)
