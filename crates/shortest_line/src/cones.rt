@@ -3,7 +3,9 @@
 //!
 //! Each turn is decided exactly for points of a field, and for those that lie as far beyond an end of a portal as a corner lies before it.
 
+use crate::images::Image;
 use crate::lengths::leg;
+use crate::met_links::EndLegs;
 use mesh_types::Portal;
 use nav_base::Point;
 
@@ -67,13 +69,23 @@ impl Cone {
         }
     }
 
-    /// What is seen of the next portal behind a turn to the left, round the left end of the portal, to which the line has some parts.
-    pub(crate) fn turned_left(&self, portal: Portal, next: Portal, len: u64) -> Option<Self> {
-        let to_right = turn(self.root, self.left, next.right);
-        if !self.through_left || turn(self.root, self.left, next.left) <= 0 && to_right < 0 {
-            return None;
+    /// On which sides of the rays the ends of the next portal lie.
+    pub(crate) fn sides(&self, next: Portal) -> Sides {
+        let to_left = between(self.root, next.left);
+        let to_right = between(self.root, next.right);
+        let left_ray = between(self.root, self.left);
+        let right_ray = between(self.root, self.right);
+        Sides {
+            left_at_left: cross(left_ray, to_left),
+            right_at_left: cross(left_ray, to_right),
+            left_at_right: cross(right_ray, to_left),
+            right_at_right: cross(right_ray, to_right),
         }
-        let all = to_right >= 0;
+    }
+
+    /// What is seen of the next portal behind a turn to the left, round the left end of the portal, to which the line has some parts.
+    pub(crate) fn turned_left(&self, sides: Sides, portal: Portal, next: Portal, len: u64) -> Self {
+        let all = sides.right_at_left >= 0;
         let right = if all {
             next.right
         } else {
@@ -89,16 +101,18 @@ impl Cone {
             through_right: all,
             whole: false,
         };
-        Some(cone.settled(next))
+        cone.settled(next)
     }
 
     /// What is seen of the next portal behind a turn to the right, round the right end of the portal, to which the line has some parts.
-    pub(crate) fn turned_right(&self, portal: Portal, next: Portal, len: u64) -> Option<Self> {
-        let to_left = turn(self.root, self.right, next.left);
-        if !self.through_right || turn(self.root, self.right, next.right) >= 0 && to_left > 0 {
-            return None;
-        }
-        let all = to_left <= 0;
+    pub(crate) fn turned_right(
+        &self,
+        sides: Sides,
+        portal: Portal,
+        next: Portal,
+        len: u64,
+    ) -> Self {
+        let all = sides.left_at_right <= 0;
         let left = if all {
             next.left
         } else {
@@ -114,26 +128,21 @@ impl Cone {
             through_right: true,
             whole: false,
         };
-        Some(cone.settled(next))
+        cone.settled(next)
     }
 
-    /// What is seen of the next portal between the rays; none where that is one point at most.
-    pub(crate) fn straight_on(&self, next: Portal) -> Option<Self> {
-        if turn(self.root, self.right, next.left) <= 0
-            || turn(self.root, self.left, next.right) >= 0
-        {
-            return None;
-        }
-        let stays_left = turn(self.root, self.left, next.left) > 0;
-        let stays_right = turn(self.root, self.right, next.right) < 0;
-        Some(Cone {
+    /// What is seen of the next portal between the rays.
+    pub(crate) fn straight_on(&self, sides: Sides, next: Portal) -> Self {
+        let stays_left = sides.left_at_left > 0;
+        let stays_right = sides.right_at_right < 0;
+        Cone {
             left: if stays_left { self.left } else { next.left },
             right: if stays_right { self.right } else { next.right },
             through_left: !stays_left,
             through_right: !stays_right,
             whole: false,
             ..*self
-        })
+        }
     }
 
     /// The corner at which the line to a goal leaves the root's sight, if it does, and whether the cone leads to the goal at all.
@@ -150,12 +159,20 @@ impl Cone {
         Some(Bend::None)
     }
 
-    /// Round which end of the portal a line to a goal that lies ahead of the portal bends at least.
-    pub(crate) fn bend_ahead(&self, portal: Portal, goal: Point) -> Bend {
-        if self.whole || turn(portal.right, portal.left, goal) > 0 {
-            return Bend::None;
+    /// What a line by the cone through its portal to a goal has at least behind the root, of which the ends of the portal lie so far. A goal on the
+    /// root's side of the portal is as far as its mirror image.
+    pub(crate) fn rest(&self, portal: Portal, legs: EndLegs, goal: Point) -> u64 {
+        if self.whole {
+            return leg(self.root, goal);
         }
-        self.way_to(goal).unwrap_or(Bend::None)
+        let image = Image::new(portal, goal);
+        if self.through_left && image.turn(self.root, self.left) > 0 {
+            return legs.left.wrapping_add(leg(portal.left, goal));
+        }
+        if self.through_right && image.turn(self.root, self.right) < 0 {
+            return legs.right.wrapping_add(leg(portal.right, goal));
+        }
+        image.leg_from(self.root)
     }
 
     /// Whether all that another cone at the same link sees is seen by this one, from the same root and behind a line that is no longer.
@@ -168,6 +185,32 @@ impl Cone {
     }
 }
 
+/// The turns at the rays of a cone to the ends of a portal: positive where the end lies to the left of the ray.
+#[derive(Clone, Copy)]
+pub(crate) struct Sides {
+    left_at_left: i64,
+    right_at_left: i64,
+    left_at_right: i64,
+    right_at_right: i64,
+}
+
+impl Sides {
+    /// Whether a point of the portal lies to the left of the left ray, or its right end on that ray.
+    pub(crate) fn is_left(&self) -> bool {
+        self.left_at_left > 0 || self.right_at_left >= 0
+    }
+
+    /// Whether a point of the portal lies to the right of the right ray, or its left end on that ray.
+    pub(crate) fn is_right(&self) -> bool {
+        self.right_at_right < 0 || self.left_at_right <= 0
+    }
+
+    /// Whether more than one point of the portal lies between the rays.
+    pub(crate) fn is_between(&self) -> bool {
+        self.left_at_right > 0 && self.right_at_left < 0
+    }
+}
+
 /// Where the line of a cone bends on its way to a goal: at no end of the portal, or at one of them.
 #[derive(Clone, Copy)]
 pub(crate) enum Bend {
@@ -177,19 +220,20 @@ pub(crate) enum Bend {
 }
 
 /// The turn at the walk from `a` to `b`: positive where `c` lies to the left of it, 0 where it lies on its line, negative to the right.
-fn turn(a: Point, b: Point, c: Point) -> i64 {
-    let (across, along) = between(a, b);
-    let (to_across, to_along) = between(a, c);
-    across
-        .wrapping_mul(to_along)
-        .wrapping_sub(along.wrapping_mul(to_across))
+pub(crate) fn turn(a: Point, b: Point, c: Point) -> i64 {
+    cross(between(a, b), between(a, c))
+}
+
+/// The cross product of two steps.
+pub(crate) fn cross(a: (i64, i64), b: (i64, i64)) -> i64 {
+    a.0.wrapping_mul(b.1).wrapping_sub(a.1.wrapping_mul(b.0))
 }
 
 /// How far `b` lies from `a` along both axes.
-fn between(a: Point, b: Point) -> (i64, i64) {
+pub(crate) fn between(a: Point, b: Point) -> (i64, i64) {
     (
-        i64::from(b.x) - i64::from(a.x),
-        i64::from(b.z) - i64::from(a.z),
+        i64::from(b.x.wrapping_sub(a.x)),
+        i64::from(b.z.wrapping_sub(a.z)),
     )
 }
 

@@ -10,12 +10,19 @@ ghost use Rattle.shortest_line.specs.Lines.{IsClose, measured_of};
 
 use mesh_types::Corner;
 use nav_base::{Point, ceil_sqrt, square_distance};
+use std::num::f64_to_bits_with_nan;
 
 /// How many squares of a part a squared sixteenth has.
 const SQUARE_PARTS: u64 = 16777216;
 
-/// The greatest number of which a root is taken: the square of the greatest number of 32 bits.
-const MOST_SQUARE: u64 = 18446744065119617025;
+/// How many parts a sixteenth has.
+const PARTS: f64 = 4096.0;
+
+/// A number of 53 binary places before the point: the lowest of a sum with it are those of the other number, rounded.
+const SHIFT: f64 = 4503599627370496.0;
+
+/// The bits of that number.
+const SHIFT_BITS: u64 = 4841369599423283200;
 
 /// The greatest number whose square is at most `n`.
 fn root_down(n: u64) -> u64
@@ -63,12 +70,34 @@ pub(crate) fn up(a: Point, b: Point) -> u64
 
 /// The distance of two points in parts, rounded down, as a search reckons it: of points far from any field nothing is promised.
 pub(crate) fn leg(a: Point, b: Point) -> u64 {
-    let across = (i64::from(b.x) - i64::from(a.x)).unsigned_abs();
-    let along = (i64::from(b.z) - i64::from(a.z)).unsigned_abs();
+    let across = b.x.wrapping_sub(a.x);
+    let along = b.z.wrapping_sub(a.z);
     let square = across
         .wrapping_mul(across)
         .wrapping_add(along.wrapping_mul(along));
-    root_down(square.wrapping_mul(SQUARE_PARTS).min(MOST_SQUARE))
+    root_in_parts(square.cast_unsigned())
+}
+
+/// The same where the square of the distance is so much greater.
+pub(crate) fn leg_with(a: Point, b: Point, more: i64) -> u64 {
+    let across = b.x.wrapping_sub(a.x);
+    let along = b.z.wrapping_sub(a.z);
+    let square = across
+        .wrapping_mul(across)
+        .wrapping_add(along.wrapping_mul(along));
+    let more = u32::try_from(more).unwrap_or(0);
+    root_in_parts(square.cast_unsigned().saturating_add(more))
+}
+
+/// The root of a number of squared sixteenths in parts, rounded down. Its guess, by floating point, may be one too great.
+fn root_in_parts(square: u32) -> u64 {
+    let shifted = f64::from(square).sqrt() * PARTS + SHIFT;
+    let root = f64_to_bits_with_nan(shifted).wrapping_sub(SHIFT_BITS);
+    if root.wrapping_mul(root) > u64::from(square) * SQUARE_PARTS {
+        root.wrapping_sub(1)
+    } else {
+        root
+    }
 }
 
 /// The parts of a line from a point over corners to a goal, each leg rounded up.

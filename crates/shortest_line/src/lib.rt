@@ -13,11 +13,13 @@
 #![tactic(auto)]
 
 mod cones;
+mod images;
 mod lengths;
 mod met_links;
 mod query;
 mod search;
 mod surrounded;
+mod waiting;
 mod walks;
 
 pub use query::{LineFound, LineQuery, ShortestAnswer, shortest};

@@ -3,11 +3,10 @@
 use crate::cones::{Bend, Cone};
 use crate::lengths::leg;
 use crate::met_links::{EndLegs, MetLinks, NONE, counted};
+use crate::waiting::{Waiting, is_lowest};
 use mesh_types::{Link, Mesh, PolyRef, Portal, Side};
 use nav_base::Point;
 use std::alloc::{AllocError, Global};
-use std::cmp::Reverse;
-use std::collections::BinaryHeap;
 
 /// What is looked for.
 #[derive(Clone, Copy)]
@@ -22,17 +21,22 @@ pub(crate) struct SoughtLine<'a> {
     pub(crate) quick: bool,
 }
 
+/// For how many cones there is room at first.
+const FIRST_ROOM: usize = 512;
+
 /// A cone that the search made, and how it came there. Numbers are those of cones and links of the search.
 #[derive(Clone, Copy)]
 struct MadeCone {
     cone: Cone,
     legs: EndLegs,
+    /// What a line by it has at least.
+    key: u64,
     /// The link at which it stands.
     link: u32,
     /// The cone that it came of.
     parent: u32,
-    /// The cone that was taken before it at the same link.
-    before: u32,
+    /// While it waits the next cone of its list; then the cone that was taken before it at the same link.
+    next: u32,
 }
 
 /// A search for a shortest line.
@@ -40,8 +44,7 @@ struct MadeCone {
 pub(crate) struct ConeSearch {
     cones: Vec<MadeCone>,
     met: MetLinks,
-    /// Cones that wait, by what a line by them has at least. Of equal ones the last comes first: numbers are counted down from the greatest.
-    waiting: BinaryHeap<Reverse<(u64, u32)>>,
+    waiting: Waiting,
     /// The length of the shortest line that was found, `u64::MAX` where none was, and its last cone.
     best: u64,
     best_cone: u32,
@@ -51,9 +54,9 @@ impl ConeSearch {
     /// A search that has come to the links that leave the first polygon.
     pub(crate) fn new(alloc: Global, sought: SoughtLine) -> Result<Self, AllocError> {
         let mut search = ConeSearch {
-            cones: Vec::new(alloc),
-            met: MetLinks::new(alloc),
-            waiting: BinaryHeap::new(alloc),
+            cones: Vec::with_capacity(alloc, FIRST_ROOM)?,
+            met: MetLinks::new(alloc)?,
+            waiting: Waiting::new(alloc, leg(sought.from, sought.goal))?,
             best: u64::MAX,
             best_cone: NONE,
         };
@@ -84,48 +87,85 @@ impl ConeSearch {
             if counted(self.cones.len()) >= most {
                 return Ok(false);
             }
-            let Some(Reverse((key, back))) = self.waiting.pop() else {
+            let Some(number) = self.pop() else {
                 return Ok(true);
             };
-            if key >= self.best {
-                return Ok(true);
-            }
-            self.take(alloc, sought, key, u32::MAX - back)?;
+            self.take(alloc, sought, number)?;
         }
         Ok(false)
     }
 
-    /// Takes a cone, unless another line comes to its link that is shorter.
-    fn take(
-        &mut self,
-        alloc: Global,
-        sought: SoughtLine,
-        key: u64,
-        number: u32,
-    ) -> Result<(), AllocError> {
-        if self.is_passed_over(number) {
-            return Ok(());
+    /// The cone that is to be taken next.
+    fn pop(&mut self) -> Option<u32> {
+        let mut list = self.waiting.front()?;
+        let mut number = self.waiting.first_of(list);
+        if !is_lowest(list) {
+            let made = self.cones.get(number as usize)?;
+            if made.next == NONE {
+                self.waiting.begin_at(made.key);
+            } else {
+                self.deal_out(list);
+                list = self.waiting.front()?;
+                number = self.waiting.first_of(list);
+            }
         }
+        let made = self.cones.get(number as usize)?;
+        self.waiting.take_before(list, made.next);
+        Some(number)
+    }
+
+    /// Deals the cones of a list out by a lower digit.
+    fn deal_out(&mut self, list: usize) {
+        let first = self.waiting.first_of(list);
+        let least = self.least_of(first);
+        self.waiting.take_before(list, NONE);
+        self.waiting.begin_at(least);
+        let mut number = first;
+        for _ in 0..self.cones.len() {
+            let Some(made) = self.cones.get_mut(number as usize) else {
+                break;
+            };
+            let next = made.next;
+            made.next = self.waiting.push(made.key, number);
+            number = next;
+        }
+    }
+
+    /// The least key of the cones of a list.
+    fn least_of(&self, first: u32) -> u64 {
+        let mut least = u64::MAX;
+        let mut number = first;
+        for _ in 0..self.cones.len() {
+            let Some(made) = self.cones.get(number as usize) else {
+                break;
+            };
+            least = least.min(made.key);
+            number = made.next;
+        }
+        least
+    }
+
+    /// Takes a cone, unless another line comes to its link that is shorter.
+    fn take(&mut self, alloc: Global, sought: SoughtLine, number: u32) -> Result<(), AllocError> {
         let Some(made) = self.cones.get(number as usize).copied() else {
             return Ok(());
         };
-        self.mark_taken(made.link, number);
-        let Some(link) = self.met.link(made.link) else {
+        if made.key >= self.best || self.is_passed_over(&made) {
+            return Ok(());
+        }
+        let Some(link) = self.mark_taken(made.link, number) else {
             return Ok(());
         };
         if link.to == sought.last {
             self.finish(sought, &made, link, number);
             return Ok(());
         }
-        self.follow(alloc, sought, &made, link, (key, number))
+        self.follow(alloc, sought, &made, link, number)
     }
 
     /// Whether other lines to the link of a cone are shorter than any by it, or a cone taken there sees all that it sees.
-    fn is_passed_over(&self, number: u32) -> bool {
-        let Some(made) = self.cones.get(number as usize) else {
-            return true;
-        };
-        let Some(met) = self.met.get(made.link) else {
+    fn is_passed_over(&mut self, made: &MadeCone) -> bool {
+        let Some(met) = self.met.get_mut(made.link) else {
             return true;
         };
         if met.beats(&made.cone, made.legs) {
@@ -139,20 +179,19 @@ impl ConeSearch {
             if taken.cone.covers(&made.cone) {
                 return true;
             }
-            other = taken.before;
+            other = taken.next;
         }
         false
     }
 
-    /// Notes that a cone is taken at a link.
-    fn mark_taken(&mut self, link: u32, number: u32) {
-        if let Some(met) = self.met.get_mut(link) {
-            let before = met.taken;
-            met.taken = number;
-            if let Some(made) = self.cones.get_mut(number as usize) {
-                made.before = before;
-            }
-        }
+    /// Notes that a cone is taken at a link, which is told.
+    fn mark_taken(&mut self, link: u32, number: u32) -> Option<Link> {
+        let met = self.met.get_mut(link)?;
+        let before = met.taken;
+        met.taken = number;
+        let made = self.cones.get_mut(number as usize)?;
+        made.next = before;
+        Some(met.link)
     }
 
     /// A cone has come to the last polygon: the line by it is the best, if none found before is as short.
@@ -175,13 +214,13 @@ impl ConeSearch {
         sought: SoughtLine,
         made: &MadeCone,
         link: Link,
-        taken: (u64, u32),
+        parent: u32,
     ) -> Result<(), AllocError> {
         let numbers = self.met.leaving(alloc, sought.mesh, link.to)?;
         for number in numbers.first..numbers.end {
             if let Some(next) = self.met.link(number) {
                 if next.to != link.from {
-                    self.follow_over(sought, made, (link.portal, next.portal), number, taken)?;
+                    self.follow_over(sought, made, (link.portal, next.portal), number, parent)?;
                 }
             }
         }
@@ -195,31 +234,31 @@ impl ConeSearch {
         made: &MadeCone,
         portals: (Portal, Portal),
         number: u32,
-        taken: (u64, u32),
+        parent: u32,
     ) -> Result<(), AllocError> {
         let (portal, next) = portals;
-        let (floor, parent) = taken;
         let cone = &made.cone;
         if cone.whole {
             let on = Cone::through(next, cone.root, cone.len, cone.legs);
-            return self.push(sought, on, number, parent, floor);
+            return self.push(sought, on, number, parent, made.key);
         }
-        if let Some(left) = cone.turned_left(portal, next, cone.len.wrapping_add(made.legs.left)) {
-            if self.bends(sought, made.link, Side::L) {
-                self.push(sought, left, number, parent, floor)?;
-            }
+        let sides = cone.sides(next);
+        if cone.through_left && sides.is_left() && self.bends(sought, made.link, Side::L) {
+            let left = cone.turned_left(sides, portal, next, cone.len.wrapping_add(made.legs.left));
+            self.push(sought, left, number, parent, made.key)?;
         }
-        if let Some(on) = cone.straight_on(next) {
-            self.push(sought, on, number, parent, floor)?;
+        if sides.is_between() {
+            let on = cone.straight_on(sides, next);
+            self.push(sought, on, number, parent, made.key)?;
         }
-        if let Some(right) = cone.turned_right(
-            portal,
-            next,
-            cone.len.wrapping_add(made.legs.right),
-        ) {
-            if self.bends(sought, made.link, Side::R) {
-                self.push(sought, right, number, parent, floor)?;
-            }
+        if cone.through_right && sides.is_right() && self.bends(sought, made.link, Side::R) {
+            let right = cone.turned_right(
+                sides,
+                portal,
+                next,
+                cone.len.wrapping_add(made.legs.right),
+            );
+            self.push(sought, right, number, parent, made.key)?;
         }
         Ok(())
     }
@@ -245,39 +284,51 @@ impl ConeSearch {
         parent: u32,
         floor: u64,
     ) -> Result<(), AllocError> {
-        let Some(met) = self.met.get_mut(link) else {
+        let Some(portal) = self.met.get(link).map(|met| met.link.portal) else {
             return Ok(());
         };
-        let portal = met.link.portal;
         let legs = EndLegs {
             left: leg(cone.root, portal.left),
             right: leg(cone.root, portal.right),
         };
-        met.reach(&cone, legs);
-        if met.beats(&cone, legs) {
+        if self.met.reach(link, &cone, legs) {
             return Ok(());
         }
-        let bend = cone.bend_ahead(portal, sought.goal);
-        let rest = rest_round(bend, cone.root, legs, portal, sought.goal);
+        let rest = cone.rest(portal, legs, sought.goal);
         let key = floor.max(cone.len.wrapping_add(rest));
         if key >= self.best {
             return Ok(());
         }
         let number = counted(self.cones.len());
+        let next = self.waiting.push(key, number);
         self.cones.push(MadeCone {
             cone,
             legs,
+            key,
             link,
             parent,
-            before: NONE,
+            next,
         })?;
-        self.waiting.push(Reverse((key, u32::MAX - number)))?;
         Ok(())
+    }
+
+    /// How many links the shortest line that was found has.
+    fn steps(&self) -> usize {
+        let mut steps: usize = 0;
+        let mut number = self.best_cone;
+        for _ in 0..self.cones.len() {
+            let Some(made) = self.cones.get(number as usize) else {
+                break;
+            };
+            steps = steps.wrapping_add(1);
+            number = made.parent;
+        }
+        steps
     }
 
     /// The links of the shortest line that was found, in order; none where none was.
     pub(crate) fn links(&self, alloc: Global) -> Result<Vec<Link>, AllocError> {
-        let mut links = Vec::new(alloc);
+        let mut links = Vec::with_capacity(alloc, self.steps())?;
         let mut number = self.best_cone;
         for _ in 0..self.cones.len() {
             let Some(made) = self.cones.get(number as usize) else {
