@@ -1017,6 +1017,20 @@ uint32_t navd_view_nearest_wall(navd_view *view, const navd_around *around, navd
  * NAVD_OK. NAVD_NO_START: around->from is no place of what the view shows. NAVD_OUT_OF_RANGE: before all others. NAVD_EMPTY. NAVD_NO_MEMORY. */
 uint32_t navd_view_walls(navd_view *view, const navd_around *around, navd_wall *walls, size_t room, size_t *count);
 
+/* One step of a crowd of at most 65535 agents, each by its wish. Where agents do not overlap when the step begins, they do not at any moment of it; two
+ * that do come no nearer. Each goes straight and evenly, on the mesh, no farther than its speed; one that sees nobody goes as it wishes, if the mesh lets
+ * it and the wish is no longer than its speed. Who goes before whom: of two the one with less `left`; idle ones last. Before the step each is placed in
+ * a polygon of what the view shows that holds its middle, on floors no farther than the climb from those that it had; where there is none it is stranded:
+ * it stands, and others keep away from it.
+ * NAVD_OK: where each agent then is, is told, with what is the steps' own. NAVD_OUT_OF_RANGE: before all others. NAVD_EMPTY. NAVD_NO_MEMORY. */
+uint32_t navd_view_crowd_step(navd_view *view, const navd_crowd *rules, navd_agent *agents, size_t count);
+
+/* The sizes of agents after a step: who waited for 3 seconds has a quarter of its full radius, at least 1 and no more than it had, so that others can pass;
+ * who does not wait has its full one again where it overlaps nobody with it. Agents are tried one after the other, and those that did not overlap do not
+ * then. Where this is not asked, discs stay as hard as they are, and may block each other for good in narrow places.
+ * NAVD_OK: the radius of each is told. NAVD_OUT_OF_RANGE: before all others. NAVD_EMPTY. NAVD_NO_MEMORY. */
+uint32_t navd_view_crowd_slim(navd_view *view, const navd_crowd *rules, navd_agent *agents, size_t count);
+
 /* One step of a crowd of at most 65535 agents, with wishes of the host's own: agent i is granted the first of the moves from moves[first[i]] to before
  * moves[first[i + 1]] that is free as the others move; where none is, it stands. `first` has one number more than there are agents. In each round those
  * named in `order` have their turns, who goes before others first. Agents that do not overlap when the step begins do not at any moment of it; two that

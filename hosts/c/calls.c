@@ -548,6 +548,47 @@ static bool is_agent(const navd_agent *agent) {
     return agent->radius >= 1 && agent->radius <= agent->full && agent->full <= 8191 && agent->speed <= 8191;
 }
 
+/* Whether a step left agents as it has to: none goes farther than its speed or is stranded, and of those that did not overlap on one floor none do then. */
+static void after_crowd(const navd_agent *was, const navd_agent *agents, size_t count) {
+    for (size_t i = 0; i < count; i++) {
+        if (agents[i].stranded) ENDS(1, "an agent that is stranded", 0);
+        if (apart(&was[i], &agents[i]) > (int64_t)agents[i].speed * agents[i].speed) ENDS(1, "how far an agent goes", 0);
+        for (size_t j = 0; j < i; j++) {
+            int64_t had = (int64_t)was[i].radius + was[j].radius, radii = (int64_t)agents[i].radius + agents[j].radius;
+            if (agents[i].low == agents[j].low && was[i].low == was[j].low && apart(&was[i], &was[j]) >= had * had
+                && apart(&agents[i], &agents[j]) < radii * radii) ENDS(1, "two agents that overlap", 0);
+        }
+    }
+}
+
+/* Some steps by wishes, with sizes anew behind each: what the host wrote stays, and who waited long is slim. */
+static void of_steered(navd_agent *agents, size_t count, const navd_crowd *rules, bool are_rules) {
+    navd_agent was[6];
+    uint32_t ends = are_rules ? NAVD_OK : NAVD_OUT_OF_RANGE;
+    for (uint32_t step = 0; step < 6; step++) {
+        for (size_t i = 0; i < count; i++) {
+            agents[i].wish = (navd_fine){(int32_t)pick(401) - 200, (int32_t)pick(401) - 200};
+            agents[i].left = pick(5) ? pick(5000) : UINT64_MAX;
+            agents[i].idle = !pick(4);
+            if (!pick(4)) agents[i].waited = pick(4) ? pick(100) : UINT32_MAX;
+        }
+        memcpy(was, agents, sizeof was);
+        ENDS(navd_view_crowd_step(&view, rules, agents, count), "navd_view_crowd_step", ends);
+        after_crowd(was, agents, count);
+        for (size_t i = 0; i < count; i++)
+            if (memcmp(&was[i].wish, &agents[i].wish, sizeof(navd_fine)) || was[i].left != agents[i].left || was[i].idle != agents[i].idle
+                || was[i].radius != agents[i].radius) ENDS(1, "what a host wrote", 0);
+        memcpy(was, agents, sizeof was);
+        ENDS(navd_view_crowd_slim(&view, rules, agents, count), "navd_view_crowd_slim", ends);
+        after_crowd(was, agents, count);
+        for (size_t i = 0; i < count && are_rules; i++) {
+            uint32_t slim = agents[i].full / 4 ? agents[i].full / 4 : 1, most = slim < was[i].radius ? slim : was[i].radius;
+            bool waits = agents[i].waited >= 3 * rules->hz, grows = !agents[i].waited && agents[i].radius == agents[i].full;
+            if (waits ? agents[i].radius != most : agents[i].radius != was[i].radius && !grows) ENDS(1, "the size of an agent", 0);
+        }
+    }
+}
+
 /* A crowd that is entered agent by agent and makes some steps: none goes farther than its speed, none is stranded, and those that do not overlap do not
  * after a step. One whose numbers are out of their limits is refused. */
 static void of_crowds(void) {
@@ -574,16 +615,9 @@ static void of_crowds(void) {
         uint32_t status = navd_view_crowd_grant(&view, &rules, agents, entered, order, entered, first_move, lists, moves, 3 * entered);
         ENDS(status, "navd_view_crowd_grant", are_rules && lists == entered + 1 ? NAVD_OK : NAVD_OUT_OF_RANGE);
         made_by[status]++;
-        for (size_t i = 0; i < entered; i++) {
-            if (agents[i].stranded) ENDS(1, "an agent that is stranded", 0);
-            if (apart(&was[i], &agents[i]) > (int64_t)agents[i].speed * agents[i].speed) ENDS(1, "how far an agent goes", 0);
-            for (size_t j = 0; j < i; j++) {
-                int64_t radii = (int64_t)agents[i].radius + agents[j].radius;
-                if (agents[i].low == agents[j].low && was[i].low == was[j].low && apart(&was[i], &was[j]) >= radii * radii
-                    && apart(&agents[i], &agents[j]) < radii * radii) ENDS(1, "two agents that overlap", 0);
-            }
-        }
+        after_crowd(was, agents, entered);
     }
+    of_steered(agents, entered, &rules, are_rules);
 }
 
 /* Where a path leads an agent from its begin, over its links, and where it leads one that is elsewhere. */

@@ -18,9 +18,9 @@
 
 #include "../../include/navd.h"
 #include "common.h"
+#include "rooms.h"
 
-enum { ROOMS = 16, PITCH = 16, SIDE = ROOMS * PITCH, TILE = 32, TILES = SIDE / TILE * (SIDE / TILE) };
-enum { WALKERS = 500, DOORS = 60, STEPS = 16, SPEED = 12, MOST_LINKS = 1024, FLOOR = 10 };
+enum { WALKERS = 500, DOORS = 60, STEPS = 16, SPEED = 12, MOST_LINKS = 1024 };
 static const double LIMIT = 0.25;
 
 /* Where a walker is, and the links and turns of its way; it has none where it waits for a door. */
@@ -59,30 +59,19 @@ static void want(bool holds, const char *what) {
     exit(1);
 }
 
-/* Whether a column is wall: two columns between rooms, but for a gap of four in the middle of each wall, and the rim. */
-static bool is_wall(int x, int z) {
-    int in_x = x % PITCH, in_z = z % PITCH;
-    bool is_rim = x < 2 || z < 2 || x >= SIDE - 1 || z >= SIDE - 1;
-    return is_rim || (in_x < 2 && (in_z < 7 || in_z > 10)) || (in_z < 2 && (in_x < 7 || in_x > 10));
-}
-
 static void open_rooms(void) {
-    static char text[SIDE * SIDE * 32];
-    size_t length = (size_t)sprintf(text, "nav 1\nsize %d %d\ntile %d\nagent 10 4 1\nerror 49\nmesh contours\nlimit %d\n", SIDE, SIDE, TILE, DOORS);
-    for (int z = 0; z < SIDE; z++)
-        for (int x = 0; x < SIDE; x++)
-            length += (size_t)sprintf(text + length, is_wall(x, z) ? "span %d %d 0 100 0\n" : "span %d %d 0 10 63\n", x, z);
-    length += (size_t)sprintf(text + length, "end\n");
+    size_t length;
+    char *text = rooms_text(DOORS, &length);
     navd_fault fault;
-    want(navd_open(&level, (const uint8_t *)text, length, &fault) == NAVD_OK, "an open");
+    want(text && navd_open(&level, (const uint8_t *)text, length, &fault) == NAVD_OK, "an open");
+    free(text);
 }
 
 /* Doors at gaps that differ, all open. */
 static void hang_doors(void) {
     for (uint32_t i = 0; i < DOORS; i++) {
-        uint32_t wall = (1 + pick(ROOMS - 1)) * PITCH, gap = pick(ROOMS) * PITCH + 7;
         doors[i].number = 0;
-        doors[i].gap = pick(2) ? (navd_block){wall, wall + 1, 0, 100, gap, gap + 3} : (navd_block){gap, gap + 3, 0, 100, wall, wall + 1};
+        doors[i].gap = drawn_gap(&seed);
         for (uint32_t j = 0; j < i; j++)
             if (!memcmp(&doors[i].gap, &doors[j].gap, sizeof(navd_block))) { i--; break; }
     }

@@ -645,6 +645,14 @@ public:
     Status walls(const navd_around &around, std::vector<navd_wall> &walls) {
         return detail::all(walls, [&](navd_wall *to, size_t *count) { return navd_view_walls(&handle, &around, to, *count, count); });
     }
+    // One step of a crowd, each agent by its wish.
+    Status crowd_step(const navd_crowd &rules, std::vector<navd_agent> &agents) noexcept {
+        return Status{navd_view_crowd_step(&handle, &rules, detail::address(agents.data()), agents.size())};
+    }
+    // Lets agents that waited for 3 seconds be slim, and those that go and have room of their full size.
+    Status crowd_slim(const navd_crowd &rules, std::vector<navd_agent> &agents) noexcept {
+        return Status{navd_view_crowd_slim(&handle, &rules, detail::address(agents.data()), agents.size())};
+    }
     // One step of a crowd with wishes of the host's own: agent i is granted the first of moves[first[i]] to before moves[first[i + 1]] that is free, in
     // the order of turns. `first` has one number more than there are agents.
     Status crowd_grant(const navd_crowd &rules, std::vector<navd_agent> &agents, Array<uint32_t> order, Array<size_t> first,

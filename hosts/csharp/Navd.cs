@@ -778,6 +778,10 @@ namespace Navd
         [DllImport(Library)]
         internal static extern Status navd_view_walls(ViewHandle view, ref Around around, [Out] Wall[] walls, UIntPtr room, out UIntPtr count);
         [DllImport(Library)]
+        internal static extern Status navd_view_crowd_step(ViewHandle view, ref Crowd rules, [In][Out] Agent[] agents, UIntPtr count);
+        [DllImport(Library)]
+        internal static extern Status navd_view_crowd_slim(ViewHandle view, ref Crowd rules, [In][Out] Agent[] agents, UIntPtr count);
+        [DllImport(Library)]
         internal static extern Status navd_view_crowd_grant(ViewHandle view, ref Crowd rules, [In][Out] Agent[] agents, UIntPtr count, uint[] order,
             UIntPtr orderCount, UIntPtr[] first, UIntPtr firstCount, Fine[] moves, UIntPtr movesCount);
         [DllImport(Library)]
@@ -1579,6 +1583,19 @@ namespace Navd
                 status = Native.navd_view_walls(view, ref around, walls.Items, walls.Length, out count);
             } while (!walls.Takes(status == Status.Ok, count));
             return status;
+        }
+
+        /// <summary>One step of a crowd, each agent by its Wish; who has less Left goes before others.</summary>
+        public Status CrowdStep(Crowd rules, Agent[] agents)
+        {
+            return Native.navd_view_crowd_step(view, ref rules, Given.Items(agents, "agents"), Given.Length(agents));
+        }
+
+        /// <summary>Lets agents that waited for 3 seconds be slim, with a quarter of their full radius, and those that go and have room of their full
+        /// size.</summary>
+        public Status CrowdSlim(Crowd rules, Agent[] agents)
+        {
+            return Native.navd_view_crowd_slim(view, ref rules, Given.Items(agents, "agents"), Given.Length(agents));
         }
 
         /// <summary>One step of a crowd with wishes of the host's own: of moves, `counts` has how many are each agent's, which follow each other; an agent is

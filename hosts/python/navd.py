@@ -693,6 +693,8 @@ def _library():
         "navd_view_slide": [handle, POINTER(_Place), POINTER(_Point), c_uint64, POINTER(_Place)],
         "navd_view_nearest_wall": [handle, POINTER(_Around), POINTER(_Wall)],
         "navd_view_walls": [handle, POINTER(_Around), POINTER(_Wall), c_size_t, POINTER(c_size_t)],
+        "navd_view_crowd_step": [handle, POINTER(_Crowd), POINTER(_Agent), c_size_t],
+        "navd_view_crowd_slim": [handle, POINTER(_Crowd), POINTER(_Agent), c_size_t],
         "navd_view_crowd_grant": [handle, POINTER(_Crowd), POINTER(_Agent), c_size_t, POINTER(c_uint32), c_size_t, POINTER(c_size_t), c_size_t,
                                   POINTER(_Fine), c_size_t],
         "navd_view_crowd_enter": [handle, POINTER(_Agent), c_size_t, POINTER(_Agent), c_uint32],
@@ -1471,6 +1473,22 @@ class View(_Asked):
         if status not in (OK, OVERLAPS):
             raise NavdError(status)
         return status == OK
+
+    def step(self, agents, sight=3072, hz=20, rounds=8):
+        """The agents of a crowd after a step, each by its `wish`; who has less `left` goes before others."""
+        return self._crowd("navd_view_crowd_step", agents, _Crowd(sight, hz, rounds))
+
+    def slim(self, agents, sight=3072, hz=20, rounds=8):
+        """The agents of a crowd, of which those that waited for 3 seconds have a quarter of their full radius, and those that go and have room their full
+        one."""
+        return self._crowd("navd_view_crowd_slim", agents, _Crowd(sight, hz, rounds))
+
+    def _crowd(self, call, agents, rules):
+        told = _array(_Agent, agents)
+        status = getattr(self._calls, call)(byref(self._handle), byref(rules), told, len(agents))
+        if status:
+            raise NavdError(status)
+        return told[:len(agents)]
 
     def grant(self, agents, moves, order=None, sight=3072, hz=20, rounds=8):
         """The agents of a crowd after a step with wishes of the host's own: for each agent a list of vectors in 1/256 of a cell, the best first, of which it

@@ -65,8 +65,11 @@ placed_told b a = record a {
   stranded = if b.stranded then 1 else 0;
 }
 
--- the same of a list, as far as both go
+-- what is told of each of a list, in the host's places one after the other, as far as both go
+abbrev pub all_told : {X : Type 0} → (X → NavdAgent → NavdAgent) → List X → List NavdAgent → List NavdAgent
+all_told told [] room = room
+all_told told (x ∷ xs) [] = []
+all_told told (x ∷ xs) (a ∷ room) = told x a ∷ all_told told xs room
+
 abbrev pub all_placed_told : List CrowdAgent → List NavdAgent → List NavdAgent
-all_placed_told [] room = room
-all_placed_told (b ∷ bs) [] = []
-all_placed_told (b ∷ bs) (a ∷ room) = placed_told b a ∷ all_placed_told bs room
+all_placed_told agents room = all_told placed_told agents room

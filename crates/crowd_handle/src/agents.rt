@@ -53,7 +53,7 @@ pub struct NavdCrowd {
     pub rounds: u32,
 }
 
-fn fine_point(p: NavdFine) -> Point
+pub(crate) fn fine_point(p: NavdFine) -> Point
     ensures { result ≡ Agents.fine_point p }
 {
     Point { x: p.x, z: p.z }

@@ -1,56 +1,20 @@
 //! Where a kept path leads an agent.
 
-ghost use Rattle.std.specs.Prelude.{◌≡◌, ◌↔◌, IfOk, IsTrue, List, Option, ℕ};
+ghost use Rattle.std.specs.Prelude.{◌≡◌, ◌↔◌, IsTrue, List, Option, ℕ};
 ghost use Rattle.mesh_types.specs.declared.mesh.Mesh.{Mesh};
 ghost use Rattle.nav_handle.specs.Answers.{EndsSo, IsAskedBy, IsRepliedBy};
 ghost use Rattle.nav_handle.specs.declared.wire.NavdLink.{NavdLink};
 ghost use Rattle.nav_handle.specs.declared.wire.NavdPoint.{NavdPoint};
 ghost use Rattle.nav_handle.specs.Statuses as status;
-ghost use Rattle.way_handle.specs.Reading;
 ghost use Rattle.crowd_handle.specs.declared.agents.NavdAgent.{NavdAgent};
 ghost use Rattle.crowd_handle.specs.Leading.{CanLead, IsLeadBy, LeadRoom, lead_ends, told_lead};
 
 use crate::agents::{NavdAgent, agent_of, fine_told, is_told_right};
 use crowd_lead::{LeadAnswer, lead};
-use mesh_types::{Asked, Link, Mesh, PolyRef, Portal};
-use nav_handle::{
-    CUT, HasMesh, NavdLink, NavdPoint, NavdPolygon, OK, OUT_OF_RANGE, has_coordinates, point_of,
-};
+use mesh_types::{Asked, Mesh};
+use nav_handle::{CUT, HasMesh, NavdLink, NavdPoint, OK, OUT_OF_RANGE, has_coordinates, point_of};
 use std::alloc::{AllocError, Global};
-
-fn polygon_of(at: NavdPolygon) -> PolyRef
-    ensures { result ≡ Reading.polygon_of at }
-{
-    PolyRef {
-        tile: at.tile,
-        index: at.index,
-    }
-}
-
-fn link_of(link: &NavdLink) -> Link
-    ensures { result ≡ Reading.link_of link.now }
-{
-    Link {
-        from: polygon_of(link.from),
-        edge: link.edge,
-        to: polygon_of(link.to),
-        portal: Portal {
-            left: point_of(link.left),
-            right: point_of(link.right),
-        },
-    }
-}
-
-/// The links of the host's array.
-fn links_of(alloc: Global, links: &[NavdLink]) -> Result<Vec<Link>, AllocError>
-    ensures { IfOk result (λ list. list.items ≡ Reading.links_of links.now) }
-{
-    let mut list = Vec::with_capacity(alloc, links.len())?;
-    for link in links {
-        list.push(link_of(link))?;
-    }
-    Ok(list)
-}
+use way_handle::links_of;
 
 /// The question where the links of the host's array lead an agent: they are copied only where there is a mesh.
 #[derive(Drop)]

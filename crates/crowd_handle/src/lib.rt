@@ -10,8 +10,13 @@ mod agents;
 mod enters;
 mod grants;
 mod leads;
+mod slimming;
+mod steering;
+mod stepping;
 
 pub use agents::{NavdAgent, NavdCrowd, NavdFine};
 pub use enters::{EnterAnswer, OVERLAPS, enter};
 pub use grants::grant_wishes;
 pub use leads::lead_agent;
+pub use slimming::slim_crowd;
+pub use stepping::{CrowdAfter, step_crowd};

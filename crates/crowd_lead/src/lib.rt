@@ -2,7 +2,7 @@
 //!
 //! `lead` looks for the agent's polygon on the path, near the link that was told last, and tells by which vector the agent would like to go in the
 //! next step, how far its goal is, and how many links are behind it. A crowd pushes its agents off their lines, so the way is looked for anew from
-//! where each is: toward the first corner of the tight line over the portals ahead, and round that corner where it is nearer than the speed. Each
+//! where each is: toward the first corner of the taut line over the portals ahead, and round that corner where it is nearer than the speed. Each
 //! portal is made narrower at both ends, so that agents keep clear of corners where there is room. A polygon that the path does not pass is told,
 //! and then a way has to be looked for anew. After Detour's `dtPathCorridor`.
 //!

@@ -12,7 +12,7 @@ use fine_walk::{fine_walk, is_fine_held};
 use mesh_types::{Link, Mesh};
 use nav_base::Point;
 
-/// By which vector an agent goes along links: toward the first turn of the tight line through their portals, and, where that is nearer than its speed,
+/// By which vector an agent goes along links: toward the first turn of the taut line through their portals, and, where that is nearer than its speed,
 /// on toward the second, if the mesh lets it.
 pub(crate) fn way_along(mesh: &Mesh, agent: &CrowdAgent, goal: Point, ahead: &[Link]) -> Point
     requires sound { IsSound mesh.now }

@@ -1,4 +1,4 @@
-//! The portals ahead of an agent, narrowed, and the corners of the tight line through them. Nothing is promised of these: they shape the wish alone.
+//! The portals ahead of an agent, narrowed, and the corners of the taut line through them. Nothing is promised of these: they shape the wish alone.
 
 ghost use Rattle.std.specs.Prelude.{◌≤◌};
 ghost use Rattle.mesh_types.specs.Soundness.{IsSound};
@@ -103,14 +103,14 @@ pub(crate) fn middle(portal: Portal) -> Point {
     }
 }
 
-/// Where the tight line turns next, and how many portals are then behind.
+/// Where the taut line turns next, and how many portals are then behind.
 #[derive(Clone, Copy)]
 pub(crate) struct NextTurn {
     pub(crate) at: Point,
     pub(crate) passed: usize,
 }
 
-/// Where the tight line from a point turns next on its way through portals from one on, or where it ends.
+/// Where the taut line from a point turns next on its way through portals from one on, or where it ends.
 pub(crate) fn next_turn(apex: Point, portals: &[Portal], first: usize, end: Point) -> NextTurn {
     let Some(portal) = portals.get(first) else {
         return NextTurn {

@@ -8,7 +8,7 @@ use Rattle.std.proofs.lemmas.List.Sorted.{Contains-permutation}
 use Rattle.std.proofs.lemmas.Option.{slice_get_within, slice_get-get_or, get_or_from_slice_get, same_Some}
 use Rattle.nav_base.specs.Point.{IsWithin, from_to}
 use Rattle.crowd_moves.specs.declared.agents.CrowdAgent.{CrowdAgent}
-use Rattle.crowd_moves.specs.declared.grid.GridEntry.{GridEntry}
+use Rattle.crowd_moves.specs.declared.keyed.KeyedPlace.{KeyedPlace}
 use Rattle.crowd_moves.specs.Contacts.{begin_at, cell_of, entry_of, AreEntries, HasContacts, IsContact, IsWideEnough}
 use Rattle.crowd_moves.specs.Finding.{AddsAll, AddsNear, AddsOfCells, AddsOfEntries, AddsOne, IsAdded, IsNearOther}
 use Rattle.crowd_moves.specs.Pairs.{HasSizes, IsNear}
@@ -47,10 +47,10 @@ module _ (agents : List CrowdAgent) (i : ℕ) where
 
   -- ---- entries of the grid
 
-  pub entries_none : (entries : List GridEntry) (begin : ℕ) (old : List ℕ) → AddsOfEntries agents entries i begin begin old old
+  pub entries_none : (entries : List KeyedPlace) (begin : ℕ) (old : List ℕ) → AddsOfEntries agents entries i begin begin old old
   entries_none entries begin old = record { adds = adds_none old; each = λ k e from below is near. absurd (omega (arith, from, below)) }
 
-  pub entries_more : (entries : List GridEntry) (begin end : ℕ) (old mid new : List ℕ) (d : GridEntry) → AddsOfEntries agents entries i begin end old mid
+  pub entries_more : (entries : List KeyedPlace) (begin end : ℕ) (old mid new : List ℕ) (d : KeyedPlace) → AddsOfEntries agents entries i begin end old mid
       → AddsOne agents i (get_or entries end d).place mid new → AddsOfEntries agents entries i begin (end + 1) old new
   entries_more entries begin end old mid new d before one = record {
     adds = adds_both old mid new before.adds one.adds;
@@ -60,13 +60,13 @@ module _ (agents : List CrowdAgent) (i : ℕ) where
           let last : k ≡ end = omega (arith, below, most) in
           let own : get_or entries end d ≡ e = get_or_from_slice_get entries end e d (subst (λ (n : ℕ). slice_get entries n ≡ Some e) last is) in
           added_after old mid new e.place before.adds
-          (subst (λ (x : GridEntry). IsAdded mid new x.place) own (one.each (subst (λ (x : GridEntry). IsNearOther agents i x.place) (sym own) near)))
+          (subst (λ (x : KeyedPlace). IsAdded mid new x.place) own (one.each (subst (λ (x : KeyedPlace). IsNearOther agents i x.place) (sym own) near)))
     ];
   }
 
   -- ---- three cells, and three rows of them
 
-  pub all_of_rows : (side : ℕ) (entries : List GridEntry) (own : ℕ) (a : CrowdAgent) (old one two new : List ℕ) → AreEntries side agents entries
+  pub all_of_rows : (side : ℕ) (entries : List KeyedPlace) (own : ℕ) (a : CrowdAgent) (old one two new : List ℕ) → AreEntries side agents entries
       → IsWideEnough side agents → All HasSizes agents → slice_get agents i ≡ Some a → own ≡ cell_of side a.at
       → AddsOfCells agents entries i (own - 16777216 - 1) old one → AddsOfCells agents entries i (own - 1) one two
       → AddsOfCells agents entries i (own + 16777216 - 1) two new → AddsAll agents i old new
@@ -101,9 +101,9 @@ module _ (agents : List CrowdAgent) (i : ℕ) where
           (cells_near wide.0 a.at b.at (sized i a is_a).at (sized j b is_b).at (close b j is_b (near.near a b is_a is_b))))
 
 -- the entries of the grid, put in order
-pub entries_ordered : (side : ℕ) (agents : List CrowdAgent) (made sorted : List GridEntry)
+pub entries_ordered : (side : ℕ) (agents : List CrowdAgent) (made sorted : List KeyedPlace)
     → ((i : ℕ) (a : CrowdAgent) → slice_get agents i ≡ Some a → slice_get made i ≡ Some (entry_of side i a)) → IsPermutation made sorted
-    → IsNonDecreasingBy (λ (entry : GridEntry). entry.cell) sorted → AreEntries side agents sorted
+    → IsNonDecreasingBy (λ (entry : KeyedPlace). entry.key) sorted → AreEntries side agents sorted
 entries_ordered side agents made sorted each moved order = record {
   order = order;
   each = λ i a is.

@@ -3,7 +3,7 @@ use Rattle.std.specs.Prelude.{◌≡◌, ◌≢◌, ℕ, ◌+◌, ◌*◌, ◌/�
 use Rattle.std.specs.List.Sorted.{IsNonDecreasingBy}
 use Rattle.nav_base.specs.declared.point.Point.{Point}
 use Rattle.crowd_moves.specs.declared.agents.CrowdAgent.{CrowdAgent}
-use Rattle.crowd_moves.specs.declared.grid.GridEntry.{GridEntry}
+use Rattle.crowd_moves.specs.declared.keyed.KeyedPlace.{KeyedPlace}
 use Rattle.crowd_moves.specs.Pairs.{IsNear}
 
 -- Lists one after the other in one list: `first` tells for each where its own begin, and those of one end where those of the next begin, or where
@@ -54,9 +54,9 @@ abbrev pub cell_of : ℕ → Point → ℕ
 cell_of side p = line_of side p.z * 16777216 + line_of side p.x
 
 -- an entry of the grid, and the entries of all agents in the order of their cells
-abbrev pub entry_of : ℕ → ℕ → CrowdAgent → GridEntry
-entry_of side i a = record { cell = cell_of side a.at; place = i }
+abbrev pub entry_of : ℕ → ℕ → CrowdAgent → KeyedPlace
+entry_of side i a = record { key = cell_of side a.at; place = i }
 
-pub record AreEntries (side : ℕ) (agents : List CrowdAgent) (entries : List GridEntry) : Type 0 where
-  pub order : IsNonDecreasingBy (λ (entry : GridEntry). entry.cell) entries
+pub record AreEntries (side : ℕ) (agents : List CrowdAgent) (entries : List KeyedPlace) : Type 0 where
+  pub order : IsNonDecreasingBy (λ (entry : KeyedPlace). entry.key) entries
   pub each : (i : ℕ) (a : CrowdAgent) → slice_get agents i ≡ Some a → Contains entries (entry_of side i a)

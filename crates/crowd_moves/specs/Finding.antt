@@ -1,7 +1,7 @@
 -- Finding: what the steps of looking for those near add to a list.
 use Rattle.std.specs.Prelude.{◌≡◌, ℕ, ◌+◌, ◌<◌, ◌≤◌, List, length, slice_get, Some}
 use Rattle.crowd_moves.specs.declared.agents.CrowdAgent.{CrowdAgent}
-use Rattle.crowd_moves.specs.declared.grid.GridEntry.{GridEntry}
+use Rattle.crowd_moves.specs.declared.keyed.KeyedPlace.{KeyedPlace}
 use Rattle.crowd_moves.specs.Pairs.{IsNear}
 
 -- one agent is another than one, and could come to touch it in one step
@@ -28,14 +28,14 @@ pub record AddsOne (agents : List CrowdAgent) (i j : ℕ) (old new : List ℕ) :
   pub each : IsNearOther agents i j → IsAdded old new j
 
 -- those near of some entries of the grid are among them
-pub record AddsOfEntries (agents : List CrowdAgent) (entries : List GridEntry) (i begin end : ℕ) (old new : List ℕ) : Type 0 where
+pub record AddsOfEntries (agents : List CrowdAgent) (entries : List KeyedPlace) (i begin end : ℕ) (old new : List ℕ) : Type 0 where
   pub adds : AddsNear agents i old new
-  pub each : (k : ℕ) (e : GridEntry) → begin ≤ k → k < end → slice_get entries k ≡ Some e → IsNearOther agents i e.place → IsAdded old new e.place
+  pub each : (k : ℕ) (e : KeyedPlace) → begin ≤ k → k < end → slice_get entries k ≡ Some e → IsNearOther agents i e.place → IsAdded old new e.place
 
 -- those of three cells that follow each other are
-pub record AddsOfCells (agents : List CrowdAgent) (entries : List GridEntry) (i low : ℕ) (old new : List ℕ) : Type 0 where
+pub record AddsOfCells (agents : List CrowdAgent) (entries : List KeyedPlace) (i low : ℕ) (old new : List ℕ) : Type 0 where
   pub adds : AddsNear agents i old new
-  pub each : (k : ℕ) (e : GridEntry) → slice_get entries k ≡ Some e → low ≤ e.cell → e.cell < low + 3 → IsNearOther agents i e.place → IsAdded old new e.place
+  pub each : (k : ℕ) (e : KeyedPlace) → slice_get entries k ≡ Some e → low ≤ e.key → e.key < low + 3 → IsNearOther agents i e.place → IsAdded old new e.place
 
 -- all are
 pub record AddsAll (agents : List CrowdAgent) (i : ℕ) (old new : List ℕ) : Type 0 where

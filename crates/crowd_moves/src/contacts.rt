@@ -5,10 +5,11 @@ ghost use Rattle.std.specs.List.Sorted.{IsNonDecreasingBy};
 ghost use Rattle.crowd_moves.specs.Contacts.{AreContacts, AreEntries, IsWideEnough};
 ghost use Rattle.crowd_moves.specs.Finding.{AddsAll, AddsOfCells, AddsOfEntries, AddsOne, IsNearOther};
 ghost use Rattle.crowd_moves.specs.Pairs.{HasSizes};
-ghost use Rattle.crowd_moves.specs.declared.grid.GridEntry.{GridEntry};
+ghost use Rattle.crowd_moves.specs.declared.keyed.KeyedPlace.{KeyedPlace};
 
 use crate::agents::CrowdAgent;
-use crate::grid::{GridEntry, ROW, before, cell, entries, widest};
+use crate::grid::{ROW, before, cell, entries, widest};
+use crate::keyed::KeyedPlace;
 use crate::pairs::is_near;
 use std::alloc::{AllocError, Global};
 
@@ -42,7 +43,7 @@ pub fn find_contacts(alloc: Global, agents: &[CrowdAgent]) -> Result<Contacts, A
 /// Adds those that an agent could come to touch.
 fn push_near(
     agents: &[CrowdAgent],
-    entries: &[GridEntry],
+    entries: &[KeyedPlace],
     side: u32,
     i: usize,
     others: &mut Vec<u32>,
@@ -62,14 +63,14 @@ fn push_near(
 /// Of three cells that follow each other, adds those that an agent could come to touch.
 fn push_cells(
     agents: &[CrowdAgent],
-    entries: &[GridEntry],
+    entries: &[KeyedPlace],
     low: u64,
     i: usize,
     others: &mut Vec<u32>,
 ) -> Result<(), AllocError>
     requires sizes { All HasSizes agents.now }
     requires there { i < length agents.now }
-    requires order { IsNonDecreasingBy (λ (entry : GridEntry). entry.cell) entries.now }
+    requires order { IsNonDecreasingBy (λ (entry : KeyedPlace). entry.key) entries.now }
     requires low { low ≤ 2 ^ 47 }
     ensures { OnOk result (AddsOfCells agents.now entries.now i low others.old.items others.new.items) }
 {
@@ -81,7 +82,7 @@ fn push_cells(
 /// Of entries from one on, adds those that an agent could come to touch.
 fn push_entries(
     agents: &[CrowdAgent],
-    entries: &[GridEntry],
+    entries: &[KeyedPlace],
     begin: usize,
     i: usize,
     others: &mut Vec<u32>,

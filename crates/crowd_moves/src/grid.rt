@@ -7,18 +7,12 @@ ghost use Rattle.nav_base.specs.Point.{IsWithin};
 ghost use Rattle.crowd_moves.specs.Contacts;
 ghost use Rattle.crowd_moves.specs.Contacts.{AreEntries, AreWithin};
 ghost use Rattle.crowd_moves.specs.Pairs.{HasSizes};
-ghost use Rattle.crowd_moves.specs.declared.grid.GridEntry.{GridEntry};
+ghost use Rattle.crowd_moves.specs.declared.keyed.KeyedPlace.{KeyedPlace};
 
 use crate::agents::CrowdAgent;
+use crate::keyed::{KeyedPlace, order_by_key};
 use nav_base::Point;
 use std::alloc::{AllocError, Global};
-
-/// An agent in the grid: the number of its cell, and its place in the list of agents.
-#[derive(Clone, Copy)]
-pub(crate) struct GridEntry {
-    pub(crate) cell: u64,
-    pub(crate) place: u32,
-}
 
 /// How far the cells of one row lie apart from those of the next, in numbers.
 pub(crate) const ROW: u64 = 16777216;
@@ -41,19 +35,19 @@ pub(crate) fn entries(
     alloc: Global,
     agents: &[CrowdAgent],
     side: u32,
-) -> Result<Vec<GridEntry>, AllocError>
+) -> Result<Vec<KeyedPlace>, AllocError>
     requires sizes { All HasSizes agents.now }
     requires few { length agents.now < 2 ^ 32 }
     requires side { 0 < side }
     ensures { IfOk result (λ entries. AreEntries side agents.now entries.items) }
 {
     let mut entries = unsorted(alloc, agents, side)?;
-    entries.sort_by_key(|entry| entry.cell)?;
+    order_by_key(&mut entries)?;
     Ok(entries)
 }
 
 /// The entries of all agents.
-fn unsorted(alloc: Global, agents: &[CrowdAgent], side: u32) -> Result<Vec<GridEntry>, AllocError>
+fn unsorted(alloc: Global, agents: &[CrowdAgent], side: u32) -> Result<Vec<KeyedPlace>, AllocError>
     requires sizes { All HasSizes agents.now }
     requires few { length agents.now < 2 ^ 32 }
     requires side { 0 < side }
@@ -61,8 +55,8 @@ fn unsorted(alloc: Global, agents: &[CrowdAgent], side: u32) -> Result<Vec<GridE
 {
     let mut entries = Vec::with_capacity(alloc, agents.len())?;
     for i in 0..agents.len() {
-        entries.push(GridEntry {
-            cell: cell(side, agents[i].at),
+        entries.push(KeyedPlace {
+            key: cell(side, agents[i].at),
             place: i as u32,
         })?;
     }
@@ -93,11 +87,11 @@ fn line(side: u32, n: i32) -> u64
 }
 
 /// How many entries are in cells before one.
-pub(crate) fn before(entries: &[GridEntry], cell: u64) -> usize
-    requires { IsNonDecreasingBy (λ (entry : GridEntry). entry.cell) entries.now }
+pub(crate) fn before(entries: &[KeyedPlace], cell: u64) -> usize
+    requires { IsNonDecreasingBy (λ (entry : KeyedPlace). entry.key) entries.now }
     ensures most { result ≤ length entries.now }
-    ensures before { (k : ℕ) (d : GridEntry) → k < result → (slice_index_or entries.now k d).cell < cell }
-    ensures after { (k : ℕ) (d : GridEntry) → result ≤ k → k < length entries.now → cell ≤ (slice_index_or entries.now k d).cell }
+    ensures before { (k : ℕ) (d : KeyedPlace) → k < result → (slice_index_or entries.now k d).key < cell }
+    ensures after { (k : ℕ) (d : KeyedPlace) → result ≤ k → k < length entries.now → cell ≤ (slice_index_or entries.now k d).key }
 {
-    entries.partition_point(|entry| entry.cell < cell)
+    entries.partition_point(|entry| entry.key < cell)
 }

@@ -1,4 +1,5 @@
 mod ListLaws
 mod OrderLaws
 mod PlacedLaws
+mod SlimLaws
 mod WholeLaws

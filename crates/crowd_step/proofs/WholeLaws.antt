@@ -1,5 +1,5 @@
 -- Whole: who sees nobody is alone, has its wish at the head of its list, and is named in the order, so it goes as it wishes.
-use Rattle.std.proofs.Common.{◌≡◌, ℕ, ◌+◌, ◌<◌, ◌≤◌, List, length, get_or, sym, subst, ap, ◌∙◌, inl, inr, arith}
+use Rattle.std.proofs.Common.{◌≡◌, ℕ, ◌+◌, ◌<◌, ◌≤◌, List, length, get_or, subst, ap, ◌∙◌, inl, inr, arith}
 use Rattle.std.specs.Prelude.{Bool, max, slice_get, Some}
 use Rattle.std.proofs.lemmas.Option.{slice_get_within, slice_get-get_or}
 use Rattle.nav_base.specs.declared.point.Point.{Point}
@@ -10,7 +10,7 @@ use Rattle.crowd_moves.specs.declared.agents.CrowdMove.{CrowdMove}
 use Rattle.crowd_moves.specs.Contacts.{begin_at}
 use Rattle.crowd_moves.specs.Pairs.{IsNear}
 use Rattle.crowd_moves.specs.Steps.{IsAlone}
-use Rattle.crowd_moves.specs.Wishes.{DoLoneGo, MayGo}
+use Rattle.crowd_moves.specs.Wishes.{DoLoneGo}
 use Rattle.crowd_moves.proofs.PairLaws.{within_more}
 use Rattle.crowd_moves.proofs.StepLaws.{no_agent}
 use Rattle.crowd_filter.specs.CrowdAgents.{MayWalk}

@@ -9,6 +9,9 @@
 //! wish that breaks no half plane of those that go before is the list, with shorter ones. Else many moves are tried, and those that are better than
 //! standing are the list: by the half planes that they break, and how far they are from the wish and from the last move.
 //!
+//! Hard discs may block each other for good where many meet in narrow places. `slim`, which a host may call after each step, lets those that waited for
+//! three seconds be a quarter of their size, and grow again where they go and have room.
+//!
 //! Points, radii and speeds are in fine units, 1/256 of a cell; speeds are by step.
 #![tactic(auto)]
 
@@ -22,10 +25,12 @@ mod placed;
 mod planes;
 mod ranks;
 mod sights;
+mod slim_agents;
 mod steering;
 mod steps;
 mod vectors;
 mod walkers;
 
+pub use slim_agents::slim;
 pub use steering::{CrowdRules, Steering};
 pub use steps::crowd_step;

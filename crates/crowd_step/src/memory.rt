@@ -1,5 +1,7 @@
 //! What agents remember of a step.
 
+ghost use Rattle.crowd_step.specs.Kept.{KeepsWish};
+
 use crate::steering::{CrowdRules, Steering};
 use crate::vectors::{Vector, dot, minus, point_of, square, vector_of};
 use crowd_moves::CrowdAgent;
@@ -26,7 +28,9 @@ pub(crate) fn remembered(
     agent: &CrowdAgent,
     thought: Thought,
     had: Steering,
-) -> Steering {
+) -> Steering
+    ensures { KeepsWish had result }
+{
     let made = minus(vector_of(agent.at), vector_of(from));
     let mut own = had;
     own.last = point_of(made);
@@ -38,9 +42,13 @@ pub(crate) fn remembered(
         own.waited.saturating_add(1)
     };
     own.tired = own.tired.saturating_sub(1);
-    if had.tired == 0 && thought.leads && own.waited >= rules.hz.saturating_mul(PATIENCE) {
-        own.tired = rules.hz.saturating_mul(REST);
-        own.waited = 0;
+    let patience = rules.hz.saturating_mul(PATIENCE);
+    if had.tired == 0 && thought.leads && own.waited >= patience {
+        // One that waited longer began to lead just now, and is not tired of it.
+        if own.waited == patience {
+            own.tired = rules.hz.saturating_mul(REST);
+        }
+        own.waited = 1;
     }
     own
 }

@@ -66,7 +66,7 @@ pub(crate) fn sights_of(
     first.push(0)?;
     for i in 0..walkers.len() {
         push_seen(&near, height, sight, walkers, i, &mut seen)?;
-        for other in seen.as_slice().iter().take(MOST_SEEN) {
+        for other in &seen {
             others.push(other.place)?;
         }
         first.push(others.len())?;
@@ -136,15 +136,36 @@ fn push_seen(
                 .wrapping_add(other.speed),
         );
         if square <= reach.wrapping_mul(reach) && !are_storeys_apart(height, own, other) {
-            seen.push(SeenAgent {
+            let other = SeenAgent {
                 square,
                 place: *place,
-            })?;
+            };
+            insert_nearer(seen, other)?;
         }
     }
-    seen.as_mut_slice()
-        .sort_unstable_by_key(|other| (other.square, other.place));
     Ok(())
+}
+
+/// Puts an agent among the nearest, which are in order.
+fn insert_nearer(seen: &mut Vec<SeenAgent>, other: SeenAgent) -> Result<(), AllocError> {
+    seen.push(other)?;
+    move_up(seen.as_mut_slice());
+    seen.truncate(MOST_SEEN);
+    Ok(())
+}
+
+/// Moves the last one in front of those that are farther; of those as far, the first place comes first.
+fn move_up(seen: &mut [SeenAgent]) {
+    let count = seen.len();
+    for step in 1..count {
+        let place = count - step;
+        let (before, own) = (seen[place - 1], seen[place]);
+        if (before.square, before.place) <= (own.square, own.place) {
+            return;
+        }
+        seen[place - 1] = own;
+        seen[place] = before;
+    }
 }
 
 fn are_storeys_apart(height: u32, a: &Walker, b: &Walker) -> bool {

@@ -4,6 +4,7 @@ ghost use Rattle.std.specs.Prelude.{◌≡◌, ◌<◌, ◌^◌, All, IfOk, OnEr
 ghost use Rattle.nav_ground.specs.Limits.{IsSetting};
 ghost use Rattle.mesh_types.specs.Soundness.{IsSound};
 ghost use Rattle.crowd_moves.specs.Pairs.{HasSizes};
+ghost use Rattle.crowd_step.specs.Kept.{AreWishesKept};
 ghost use Rattle.crowd_step.specs.Steered.{IsSteeredStep};
 
 use crate::intents::intents_of;
@@ -16,7 +17,8 @@ use nav_base::Point;
 use std::alloc::{AllocError, Global};
 
 /// One step of a crowd: the steering of each agent makes a list of moves of its wish, moves are granted in the order of ranks, and made. An agent that
-/// sees nobody goes as it wishes, if the mesh lets it and the wish is no longer than its speed. Where memory is refused nothing changes.
+/// sees nobody goes as it wishes, if the mesh lets it and the wish is no longer than its speed. What the host wishes stays as it says it; where memory is
+/// refused nothing changes.
 pub fn crowd_step(
     alloc: Global,
     mesh: &Mesh,
@@ -30,6 +32,7 @@ pub fn crowd_step(
     requires few { length agents.old < 2 ^ 32 }
     requires one_each { length steering.old ≡ length agents.old }
     ensures right { OnOk result (IsSteeredStep mesh.now rules.sight steering.old agents.old agents.new) }
+    ensures kept { OnOk result (AreWishesKept steering.old steering.new) }
     ensures refused { OnErr result (agents.new ≡ agents.old) }
     ensures unsteered { OnErr result (steering.new ≡ steering.old) }
 {
@@ -63,7 +66,9 @@ fn remember(
     agents: &[CrowdAgent],
     thoughts: &[Thought],
     steering: &mut [Steering],
-) {
+)
+    ensures { AreWishesKept steering.old steering.new }
+{
     for i in 0..steering.len() {
         if let (Some(place), Some(agent), Some(thought)) = (
             from.get(i),

@@ -51,6 +51,7 @@ pub(crate) fn minus(u: Vector, v: Vector) -> Vector {
 }
 
 /// So many parts of a vector out of so many.
+#[inline(never)]
 pub(crate) fn part(v: Vector, parts: i64, of: i64) -> Vector {
     Vector {
         x: ratio(v.x.wrapping_mul(parts), of),
@@ -76,6 +77,7 @@ pub(crate) fn square(n: i64) -> i64 {
 }
 
 /// The root of a number, rounded up.
+#[inline(never)]
 pub(crate) fn root(n: i64) -> i64 {
     let root = ceil_sqrt(n.unsigned_abs().min(1099511627776));
     i64::from(root)
@@ -93,6 +95,7 @@ pub(crate) fn rough_length(v: Vector) -> i64 {
     across.max(along).wrapping_add(less)
 }
 
+#[inline(never)]
 pub(crate) fn turned(v: Vector, turn: Turn) -> Vector {
     let across = v.x.wrapping_mul(turn.cosine);
     let along = v.z.wrapping_mul(turn.cosine);

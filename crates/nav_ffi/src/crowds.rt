@@ -6,10 +6,44 @@ ghost use Rattle.nav_handle.specs.Statuses as status;
 ghost use Rattle.crowd_handle.specs.Entering.{CanEnter, IsEnteredBy, enter_ends, told_enter};
 ghost use Rattle.crowd_handle.specs.Granting.{CanGrant, IsGrantedBy, grant_ends, told_grant};
 ghost use Rattle.crowd_handle.specs.Leading.{CanLead, IsLeadBy, LeadRoom, lead_ends, told_lead};
+ghost use Rattle.crowd_handle.specs.Slimming.{AreSlimmedBy, slim_ends, told_slim};
+ghost use Rattle.crowd_handle.specs.Stepping.{CanStep, IsSteppedBy, step_ends, told_step};
 
 use crowd_handle::{NavdAgent, NavdCrowd, NavdFine};
 use nav_handle::{NavdLink, NavdPoint, NavdView};
 use std::alloc::Global;
+
+/// One step of a crowd over the mesh that a view shows, by the wishes of its agents.
+#[unsafe(no_mangle)]
+pub extern "C" fn navd_view_crowd_step(
+    alloc: Global,
+    view: &mut NavdView,
+    rules: &NavdCrowd,
+    agents: &mut [NavdAgent],
+) -> u32
+    ensures asked { CanStep rules.now agents.old → IsAskedBy (IsSteppedBy rules.now agents.old) step_ends told_step
+        (seen_in view.old.view) agents.old agents.new result }
+    ensures refused { (CanStep rules.now agents.old → ⊥) → EndsSo status.out_of_range agents.old agents.new result }
+    ensures same { view.new.view ≡ view.old.view }
+{
+    crowd_handle::step_crowd(alloc, view, rules, agents)
+}
+
+/// Lets agents that waited for three seconds be slim, and those that go and have room of their full size, over the mesh that a view shows.
+#[unsafe(no_mangle)]
+pub extern "C" fn navd_view_crowd_slim(
+    alloc: Global,
+    view: &mut NavdView,
+    rules: &NavdCrowd,
+    agents: &mut [NavdAgent],
+) -> u32
+    ensures asked { CanStep rules.now agents.old → IsAskedBy (AreSlimmedBy rules.now agents.old) slim_ends told_slim
+        (seen_in view.old.view) agents.old agents.new result }
+    ensures refused { (CanStep rules.now agents.old → ⊥) → EndsSo status.out_of_range agents.old agents.new result }
+    ensures same { view.new.view ≡ view.old.view }
+{
+    crowd_handle::slim_crowd(alloc, view, rules, agents)
+}
 
 /// One step of a crowd over the mesh that a view shows, with wishes of the host's own: agent i is granted the first of the moves from `first[i]` to
 /// before `first[i + 1]` that is free.

@@ -39,7 +39,10 @@ pub use changes::navd_changed_tiles;
 pub use claims::{
     navd_registry_claim, navd_registry_put_back, navd_registry_put_back_all, navd_registry_submit,
 };
-pub use crowds::{navd_view_crowd_enter, navd_view_crowd_grant, navd_view_lead};
+pub use crowds::{
+    navd_view_crowd_enter, navd_view_crowd_grant, navd_view_crowd_slim, navd_view_crowd_step,
+    navd_view_lead,
+};
 pub use goals::{navd_view_follow_path, navd_view_nearest_goal};
 pub use jobs::{
     navd_aim, navd_build, navd_claim, navd_job_close, navd_publish, navd_put_back,

@@ -20,6 +20,8 @@ mod meshes;
 #[cfg(test)]
 mod rows;
 #[cfg(test)]
+mod sizes;
+#[cfg(test)]
 mod steering;
 #[cfg(test)]
 mod steps;

@@ -21,4 +21,5 @@ pub use floods::{NavdFlood, NavdReached, flood};
 pub use followers::{NavdFollower, follow};
 pub use nearest::{NavdGoal, NavdNearest, nearest_goal};
 pub use plans::{NavdPlan, plan};
+pub use reading::links_of;
 pub use repairs::{NavdRepair, repair};

@@ -32,7 +32,7 @@ fn link_of(link: &NavdLink) -> Link
 }
 
 /// The links of the host's array.
-pub(crate) fn links_of(alloc: Global, links: &[NavdLink]) -> Result<Items<Link>, AllocError>
+pub fn links_of(alloc: Global, links: &[NavdLink]) -> Result<Items<Link>, AllocError>
     ensures { IfOk result (λ list. list ≡ links_of links.now) }
 {
     let mut list = Vec::with_capacity(alloc, links.len())?;

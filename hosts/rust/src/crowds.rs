@@ -14,10 +14,22 @@ pub enum Entered {
 }
 
 impl View {
+    /// One step of a crowd, each agent by its `wish`; who has less `left` goes before others.
+    pub fn crowd_step(&mut self, rules: Crowd, agents: &mut [Agent]) -> Result<(), Error> {
+        // SAFETY: here and below, the handle is this view's, and the arrays are those of slices.
+        let status = unsafe { sys::navd_view_crowd_step(&mut self.handle, &rules, agents.as_mut_ptr(), agents.len()) };
+        done((status, 0)).map(|_| ())
+    }
+
+    /// Lets agents that waited for 3 seconds be slim, with a quarter of their full radius, and those that go and have room of their full size.
+    pub fn crowd_slim(&mut self, rules: Crowd, agents: &mut [Agent]) -> Result<(), Error> {
+        let status = unsafe { sys::navd_view_crowd_slim(&mut self.handle, &rules, agents.as_mut_ptr(), agents.len()) };
+        done((status, 0)).map(|_| ())
+    }
+
     /// One step of a crowd with wishes of the host's own: agent i is granted the first of the moves from `first[i]` to before `first[i + 1]` that is free;
     /// who stands earlier in `order` goes before others. `first` has one number more than there are agents.
     pub fn crowd_grant(&mut self, rules: Crowd, agents: &mut [Agent], order: &[u32], first: &[usize], moves: &[Fine]) -> Result<(), Error> {
-        // SAFETY: here and below, the handle is this view's, and the arrays are those of slices.
         let status = unsafe {
             sys::navd_view_crowd_grant(
                 &mut self.handle, &rules, agents.as_mut_ptr(), agents.len(), order.as_ptr(), order.len(), first.as_ptr(), first.len(), moves.as_ptr(),

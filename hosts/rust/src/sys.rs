@@ -867,6 +867,8 @@ extern "C" {
     pub fn navd_view_slide(view: *mut Handle, from: *const Place, to: *const Point, areas: u64, end: *mut Place) -> u32;
     pub fn navd_view_nearest_wall(view: *mut Handle, around: *const Around, wall: *mut Wall) -> u32;
     pub fn navd_view_walls(view: *mut Handle, around: *const Around, walls: *mut Wall, room: usize, count: *mut usize) -> u32;
+    pub fn navd_view_crowd_step(view: *mut Handle, rules: *const Crowd, agents: *mut Agent, count: usize) -> u32;
+    pub fn navd_view_crowd_slim(view: *mut Handle, rules: *const Crowd, agents: *mut Agent, count: usize) -> u32;
     pub fn navd_view_crowd_grant(
         view: *mut Handle,
         rules: *const Crowd,

@@ -94,6 +94,21 @@ fn agents_of_a_crowd_keep_apart() {
     // 16 steps of 64; one more would come nearer than both radii.
     assert_eq!((agents[0].at, agents[1].at), (Fine { x: 640, z: 1664 }, Fine { x: 640, z: 1920 }));
     assert_eq!(view.crowd_grant(rules, &mut agents, &[], &[0], &[]), Err(Error::OutOfRange));
+    // By its wish it goes round; the other one is idle, waits, and is never slim before three seconds.
+    agents[1].idle = 1;
+    for _ in 0..40 {
+        assert_eq!(view.lead(&mut agents[0], to.at, &links, &mut link), Ok(true));
+        view.crowd_step(rules, &mut agents).unwrap();
+        view.crowd_slim(rules, &mut agents).unwrap();
+    }
+    assert_eq!((agents[0].radius, agents[1].radius), (100, 100));
+    let mut waits = [Agent { waited: 60, ..agents[0] }];
+    view.crowd_slim(rules, &mut waits).unwrap();
+    assert_eq!(waits[0].radius, 25);
+    waits[0].waited = 0;
+    view.crowd_slim(rules, &mut waits).unwrap();
+    assert_eq!(waits[0].radius, 100);
+    assert_eq!(view.crowd_step(Crowd { hz: 0, ..rules }, &mut waits), Err(Error::OutOfRange));
 }
 
 #[test]

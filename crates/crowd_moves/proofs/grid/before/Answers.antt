@@ -2,16 +2,16 @@ use Rattle.std.proofs.Common.{◌≡◌, ltb, true, false, arith, rules}
 use Rattle.std.specs.List.Sorted.{IsPartitionPoint}
 use Rattle.std.proofs.lemmas.Bool.{ltb-true, ltb-false}
 use Rattle.std.proofs.lemmas.List.Sorted.{IsPartitionPoint-from_clause, IsPartitionedBy-ltb}
-use Rattle.crowd_moves.specs.declared.grid.GridEntry.{GridEntry}
+use Rattle.crowd_moves.specs.declared.keyed.KeyedPlace.{KeyedPlace}
 use Rattle.crowd_moves.proofs.grid.before.Goals as goal
 
 -- the search finds where the cell begins
 point : (c : goal.After-partition_point)
-    → IsPartitionPoint (λ (entry : GridEntry). ltb entry.cell c.args.cell ≡ true) (λ (entry : GridEntry). ltb entry.cell c.args.cell ≡ false)
+    → IsPartitionPoint (λ (entry : KeyedPlace). ltb entry.key c.args.cell ≡ true) (λ (entry : KeyedPlace). ltb entry.key c.args.cell ≡ false)
     c.args.entries.now c.partition_point.result
 point c =
-    let parted = IsPartitionedBy-ltb (λ (entry : GridEntry). entry.cell) c.args.entries.now c.args.cell c.requires in
-    IsPartitionPoint-from_clause (λ (entry : GridEntry). ltb entry.cell c.args.cell) _ _ c.partition_point.ensures.partitioned parted
+    let parted = IsPartitionedBy-ltb (λ (entry : KeyedPlace). entry.key) c.args.entries.now c.args.cell c.requires in
+    IsPartitionPoint-from_clause (λ (entry : KeyedPlace). ltb entry.key c.args.cell) _ _ c.partition_point.ensures.partitioned parted
     (λ a r q k. search rules)
 
 pub returns-clause-before : goal.returns-clause-before
