@@ -35,7 +35,7 @@ make_archive() {
     (cd "$1/objects" && "${tools}ar" x "$archive")
     "$cc" -std=c11 -O2 -fPIC -fvisibility=hidden -ffile-prefix-map="$top=." -c "$top/hosts/c/heap.c" -o "$1/objects/navd_heap.o"
     "${tools}objcopy" --weaken "$1/objects/navd_heap.o"
-    "$cc" -std=c11 -O2 -fPIC -ffile-prefix-map="$top=." -I"$top/include" -c "$top/hosts/world/navd_world.c" -o "$1/objects/navd_world.o"
+    "$cc" -std=c11 -Os -fPIC -ffile-prefix-map="$top=." -I"$top/include" -c "$top/hosts/world/navd_world.c" -o "$1/objects/navd_world.o"
     (cd "$1/objects" && "${tools}ar" rcsD "$1/lib/libnavd.a" $(ls | sort))
 }
 
