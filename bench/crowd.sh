@@ -4,7 +4,7 @@
 # overlap at some moment, moves off the mesh, moves that are too fast, agents left behind after SECONDS (in so many runs), when the last one arrives, how many pass the
 # door a minute, which part of the moves stands; and the instructions of a step, with where paths lead, by callgrind of valgrind over the first COUNTED
 # seconds of seed 1. Fails where, of ours, a pair overlaps, a move is off the mesh or too fast, an agent is left behind, fewer pass the door than FLOWS says, or
-# a step takes more than 1.0 of the peer's instructions. COUNTED=0 counts none. LOG=FOLDER keeps what was written a step of seed 1, for tools/crowd_film.py.
+# a step takes more than 0.6 of the peer's instructions. COUNTED=0 counts none. LOG=FOLDER keeps what was written a step of seed 1, for tools/crowd_film.py.
 # LIB is the archive of the library, and else what `rt lib` of crates/nav_ffi makes. PEER is bench/crowd_peer.cpp where none is named.
 # usage: [LIB=..] [SEEDS=16] [SECONDS_A_RUN=120] [COUNTED=10] [SCENES=..] [LOG=..] bench/crowd.sh [PEER]
 set -eu
@@ -72,7 +72,7 @@ for scene in ${SCENES:-circle corridor3 corridor2 corridor1 door1 door2 both cro
             below("moves that are too fast", sum[0, 3], 0)
             below("agents left behind", sum[0, 5], 0)
             below("minus who pass a minute", -flows(0), -flow)
-            if (theirs > 0) below("the ratio of instructions", ours / theirs, 1.0)
+            if (theirs > 0) below("the ratio of instructions", ours / theirs, 0.6)
             exit bad
         }' "$work/own.runs" "$work/peer.runs" || status=1
 done
