@@ -4,12 +4,7 @@
 # usage: [LIB=..] bench/arrays.sh TEXT..
 set -eu
 cd "$(dirname "$0")/.."
-work=$(mktemp -d)
-trap 'rm -rf "$work"' EXIT
-if [ -z "${LIB:-}" ]; then
-    (cd crates/nav_ffi && rt lib > "$work/build.log" 2>&1) || { cat "$work/build.log"; exit 1; }
-    LIB=crates/nav_ffi/out/libnav_ffi.a
-fi
+. bench/with_library.sh
 cc -std=c11 -O2 bench/arrays.c hosts/c/heap.c "$LIB" -lm -o "$work/arrays"
 status=0
 for text in "$@"; do

@@ -9,8 +9,9 @@
 #define _POSIX_C_SOURCE 200809L
 #include "crowd.h"
 #include "opened.h"
+#include "../hosts/c/faces.h"
 
-enum { MOST_LINKS = 1024, MOST_TILES = 1024, MOST_FACES = 1024, FLOOR = 10 };
+enum { MOST_LINKS = 1024, FLOOR = 10 };
 
 typedef struct {
     int agent; /* its place in the scene */
@@ -24,7 +25,6 @@ static scene it;
 static outcome told;
 static walker walkers[MOST_AGENTS];
 static navd_agent agents[MOST_AGENTS];
-static navd_face faces[MOST_TILES][MOST_FACES];
 static int count;
 
 static navd_point sixteenths(spot at) {
@@ -62,25 +62,6 @@ static void lead(walker *w, navd_agent *agent) {
     want(status == NAVD_CUT, "a lead");
     plan(w, agent);
     if (navd_view_lead(&view, agent, &w->goal, w->links, w->count, &w->link) != NAVD_OK) head_for(agent, w->turn);
-}
-
-static void read_mesh(void) {
-    navd_shown shown;
-    size_t many;
-    want(navd_view_count(&view, &shown) == NAVD_OK && shown.tiles <= MOST_TILES, "so many tiles");
-    for (uint32_t tile = 0; tile < shown.tiles; tile++)
-        want(navd_view_polygons(&view, tile, faces[tile], MOST_FACES, &many) == NAVD_OK && many <= MOST_FACES, "so many polygons");
-}
-
-static bool is_held(const navd_agent *agent) {
-    const navd_face *face = &faces[agent->polygon.tile][agent->polygon.index];
-    if (agent->stranded) return false;
-    for (uint32_t i = 0; i < face->corners; i++) {
-        navd_corner a = face->corner[i], b = face->corner[(i + 1) % face->corners];
-        int64_t ax = 256 * (int64_t)a.x, az = 256 * (int64_t)a.z, bx = 256 * (int64_t)b.x, bz = 256 * (int64_t)b.z;
-        if ((bx - ax) * (agent->at.z - az) - (bz - az) * (agent->at.x - ax) < 0) return false;
-    }
-    return true;
 }
 
 static void enter(void) {
@@ -128,7 +109,7 @@ static void step(double time) {
 #endif
     COUNT_OFF;
     want(status == NAVD_OK, "a step");
-    for (int i = 0; i < count; i++) after[i] = cells(agents[i].at), told.off += !is_held(&agents[i]);
+    for (int i = 0; i < count; i++) after[i] = cells(agents[i].at), told.off += agents[i].stranded || !is_held(&agents[i]);
     add_step(&told, &it, there, count, before, after, time);
 }
 
@@ -139,7 +120,7 @@ int main(int words_count, char **words) {
     open_level(words[1]);
     uint32_t shows;
     want(navd_look(&view, &level, &shows) == NAVD_OK, "a look");
-    read_mesh();
+    read_faces(&view);
     enter();
     for (int k = 1; k <= atoi(words[3]) * STEPS_A_SECOND && count; k++) {
         if (log) write_step(log);

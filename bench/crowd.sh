@@ -12,12 +12,7 @@ cd "$(dirname "$0")/.."
 peer=${1:-bench/crowd_peer.cpp}
 seconds=${SECONDS_A_RUN:-120}
 counted=${COUNTED:-10}
-work=$(mktemp -d)
-trap 'rm -rf "$work"' EXIT
-if [ -z "${LIB:-}" ]; then
-    (cd crates/nav_ffi && rt lib > "$work/build.log" 2>&1) || { cat "$work/build.log"; exit 1; }
-    LIB=crates/nav_ffi/out/libnav_ffi.a
-fi
+. bench/with_library.sh
 own="cc -std=c11 -O2 bench/crowd.c hosts/c/heap.c $LIB -lm"
 other="c++ -O2 -std=c++17 -I/usr/include/recastnavigation $peer -lDetourCrowd -lDetourTileCache -lDetour -lRecast"
 $own -o "$work/own"

@@ -9,12 +9,7 @@
 # usage: [LIB=..] [UNIT=0.125] [RUNS=9] [COUNT=500] [INSTRUCTIONS=1] bench/kinds.sh [LEVEL..]
 set -eu
 cd "$(dirname "$0")/.."
-work=$(mktemp -d)
-trap 'rm -rf "$work"' EXIT
-if [ -z "${LIB:-}" ]; then
-    (cd crates/nav_ffi && rt lib > "$work/build.log" 2>&1) || { cat "$work/build.log"; exit 1; }
-    LIB=crates/nav_ffi/out/libnav_ffi.a
-fi
+. bench/with_library.sh
 cc -std=c11 -O2 ${INSTRUCTIONS:+-DCOUNTED} bench/kinds.c hosts/c/heap.c "$LIB" -lm -o "$work/kinds"
 c++ -O2 -std=c++17 ${INSTRUCTIONS:+-DCOUNTED} -I/usr/include/recastnavigation bench/kinds_peer.cpp -o "$work/peer" -lDetourTileCache -lDetour -lRecast
 

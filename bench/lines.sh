@@ -6,12 +6,7 @@
 # usage: [LIB=..] [UNIT=0.125] [COUNT=100] bench/lines.sh [LEVEL..]
 set -eu
 cd "$(dirname "$0")/.."
-work=$(mktemp -d)
-trap 'rm -rf "$work"' EXIT
-if [ -z "${LIB:-}" ]; then
-    (cd crates/nav_ffi && rt lib > "$work/build.log" 2>&1) || { cat "$work/build.log"; exit 1; }
-    LIB=crates/nav_ffi/out/libnav_ffi.a
-fi
+. bench/with_library.sh
 cc -std=c11 -O2 -DCOUNTED bench/lines.c hosts/c/heap.c "$LIB" -lm -o "$work/lines"
 c++ -O2 -std=c++17 -DCOUNTED -I/usr/include/recastnavigation bench/lines_peer.cpp -o "$work/peer_program" -lDetourTileCache -lDetour -lRecast
 

@@ -7,6 +7,7 @@
 #include <stdlib.h>
 #include <string.h>
 
+#include "../hosts/c/text.h"
 #include "../include/navd.h"
 
 static navd_level level;
@@ -20,14 +21,8 @@ static void want(bool holds, const char *what) {
 
 /* The text of a file, with a 0 behind it, and its length without that. */
 static char *text_of(const char *path, size_t *length) {
-    FILE *file = fopen(path, "rb");
-    want(file && !fseek(file, 0, SEEK_END), "no such text");
-    *length = (size_t)ftell(file);
-    rewind(file);
-    char *text = malloc(*length + 1);
-    want(text && fread(text, 1, *length, file) == *length, "a text that cannot be read");
-    text[*length] = 0;
-    fclose(file);
+    char *text = read_text(path, length);
+    want(text != NULL, "no such text");
     return text;
 }
 

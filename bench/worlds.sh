@@ -7,12 +7,7 @@
 # usage: [LIB=..] [RUNS=9] [COUNT=2000] [INSTRUCTIONS=1] bench/worlds.sh
 set -eu
 cd "$(dirname "$0")/.."
-work=$(mktemp -d)
-trap 'rm -rf "$work"' EXIT
-if [ -z "${LIB:-}" ]; then
-    (cd crates/nav_ffi && rt lib > "$work/build.log" 2>&1) || { cat "$work/build.log"; exit 1; }
-    LIB=crates/nav_ffi/out/libnav_ffi.a
-fi
+. bench/with_library.sh
 cc -std=c11 -O2 ${INSTRUCTIONS:+-DCOUNTED} -Iinclude bench/worlds.c hosts/world/navd_world.c hosts/c/heap.c "$LIB" -lm -pthread -o "$work/worlds"
 
 runs=${RUNS:-9}

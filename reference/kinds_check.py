@@ -15,14 +15,11 @@ It ends with the first play that differs, or at an interrupt with what was playe
 and left in a file that is named. A play takes some 200 ms.
 """
 import random
-import signal
-import sys
 import tempfile
 from collections import Counter
-from multiprocessing import Pool
 from pprint import pformat
 
-from library import host_and_levels, processes
+from library import count_all, host_and_levels, processes
 
 jobs = processes()
 navd, plays, first_seed = host_and_levels(__doc__, 200)
@@ -296,18 +293,7 @@ def told_of(seed):
 
 
 def main():
-    total = Counter()
-    signal.signal(signal.SIGINT, signal.default_int_handler)  # also where a shell starts it in the background
-    try:
-        with Pool(jobs) as pool:
-            for told in pool.imap(told_of, range(first_seed, first_seed + plays), chunksize=8):
-                if isinstance(told, str):
-                    sys.exit(f"WRONG: {told}")
-                total += told
-    except KeyboardInterrupt:
-        print("interrupted")
-    for name, count in sorted(total.items()):
-        print(f"{count:10} {name}")
+    total = count_all(told_of, range(first_seed, first_seed + plays), jobs, chunksize=8)
     print(f"over {total['plays']} plays: all as the second program and levels of one kind have it")
 
 

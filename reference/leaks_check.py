@@ -11,12 +11,9 @@ beside it: how many of the walls would leak that covered the columns alone whose
 """
 import math
 import random
-import signal
-import sys
 from collections import Counter
-from multiprocessing import Pool
 
-from library import host_and_levels, processes
+from library import count_all, host_and_levels, processes
 
 jobs = processes()
 navd, walls, first_seed = host_and_levels(__doc__, 3000)
@@ -176,18 +173,7 @@ def run(seed):
 
 
 def main():
-    total = Counter()
-    signal.signal(signal.SIGINT, signal.default_int_handler)  # also where a shell starts it in the background
-    try:
-        with Pool(jobs) as pool:
-            for told in pool.imap(run, range(first_seed, first_seed + -(-walls // BATCH))):
-                if isinstance(told, str):
-                    sys.exit(f"WRONG: {told}")
-                total += told
-    except KeyboardInterrupt:
-        print("interrupted")
-    for name, count in sorted(total.items()):
-        print(f"{count:8} {name}")
+    count_all(run, range(first_seed, first_seed + -(-walls // BATCH)), jobs)
     print("no wall leaks")
 
 

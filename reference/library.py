@@ -5,7 +5,10 @@ import functools
 import io
 import os
 import random
+import signal
 import sys
+from collections import Counter
+from multiprocessing import Pool
 from pathlib import Path
 from unittest import mock
 
@@ -33,6 +36,23 @@ def processes():
     number = int(sys.argv[place + 1])
     del sys.argv[place:place + 2]
     return number
+
+
+def count_all(run, seeds, number, chunksize=1):
+    """What `run` tells of each seed, added up, by so many processes; ends the program where it tells a text, which says what is wrong."""
+    total = Counter()
+    signal.signal(signal.SIGINT, signal.default_int_handler)  # also where a shell starts it in the background
+    try:
+        with Pool(number) as pool:
+            for told in pool.imap(run, seeds, chunksize):
+                if isinstance(told, str):
+                    sys.exit(f"WRONG: {told}")
+                total += told
+    except KeyboardInterrupt:
+        print("interrupted")
+    for name, count in sorted(total.items()):
+        print(f"{count:10} {name}")
+    return total
 
 
 def refuser(navd):

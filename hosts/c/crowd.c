@@ -25,8 +25,9 @@
 #include "../../include/navd.h"
 #include "common.h"
 #include "rooms.h"
+#include "text.h"
 
-enum { AGENTS = 500, DOORS = 60, ASKING = 4, PERIOD = 10, LOGGED = 200, MOST_LINKS = 1024, MOST_TILES = 1024, MOST_FACES = 1024 };
+enum { AGENTS = 500, DOORS = 60, ASKING = 4, PERIOD = 10, LOGGED = 200, MOST_LINKS = 1024 };
 enum { RADIUS = 320, SPEED = 192 }; /* in 1/256 of a cell; the speed is that of a step */
 
 typedef struct {
@@ -60,7 +61,6 @@ static door doors[DOORS], second_doors[DOORS];
 static walker walkers[AGENTS];
 static navd_agent agents[AGENTS], again[AGENTS];
 static bool is_entered[AGENTS];
-static navd_face faces[MOST_TILES][MOST_FACES];
 static logged *records;
 static const navd_crowd rules = {3072, 20, 8};
 static struct {
@@ -76,6 +76,8 @@ static void want(bool holds, const char *what) {
     fprintf(stderr, "%s\n", what);
     exit(1);
 }
+
+#include "faces.h"
 
 static bool draw(navd_view *of, uint64_t *by, navd_place *place) {
     *by = *by * 6364136223846793005u + 1442695040888963407u;
@@ -143,23 +145,9 @@ static void hang_in_gaps(void) {
 
 /* ---- what is held */
 
-static void read_mesh(void) {
-    navd_shown shown;
-    size_t many;
-    want(navd_view_count(&view, &shown) == NAVD_OK && shown.tiles <= MOST_TILES, "so many tiles");
-    for (uint32_t tile = 0; tile < shown.tiles; tile++)
-        want(navd_view_polygons(&view, tile, faces[tile], MOST_FACES, &many) == NAVD_OK && many <= MOST_FACES, "so many polygons");
-}
-
-static bool is_held(const navd_agent *a) {
-    const navd_face *face = &faces[a->polygon.tile][a->polygon.index];
-    if (a->low != face->low || a->high != face->high) return false;
-    for (uint32_t i = 0; i < face->corners; i++) {
-        navd_corner p = face->corner[i], q = face->corner[(i + 1) % face->corners];
-        int64_t px = 256 * (int64_t)p.x, pz = 256 * (int64_t)p.z, qx = 256 * (int64_t)q.x, qz = 256 * (int64_t)q.z;
-        if ((qx - px) * (a->at.z - pz) - (qz - pz) * (a->at.x - px) < 0) return false;
-    }
-    return true;
+static bool has_floors(const navd_agent *agent) {
+    const navd_face *face = &faces[agent->polygon.tile][agent->polygon.index];
+    return agent->low == face->low && agent->high == face->high;
 }
 
 static bool are_storeys_apart(const navd_agent *a, const navd_agent *b) {
@@ -196,7 +184,7 @@ static void look_at_step(const navd_agent *was, bool is_turned) {
         const navd_agent *a = &agents[i];
         sorted[i] = a;
         want(square(a->at.x - was[i].at.x, a->at.z - was[i].at.z) <= (int64_t)a->speed * a->speed, "an agent that is too fast");
-        want(a->stranded || is_held(a), "an agent off the mesh");
+        want(a->stranded || (has_floors(a) && is_held(a)), "an agent off the mesh");
         want(is_turned || was[i].stranded == a->stranded, "an agent stranded by nothing");
     }
     qsort(sorted, AGENTS, sizeof *sorted, by_x);
@@ -318,7 +306,7 @@ static void tick(long number, logged *record) {
         want(navd_look(&view, &level, &published) == NAVD_OK, "a look");
         pthread_mutex_unlock(&lock);
         told.publishes++;
-        read_mesh();
+        read_faces(&view);
     }
     for (size_t i = 0; i < AGENTS; i++) lead(&walkers[i], &agents[i]);
     memcpy(record->given, agents, sizeof agents);
@@ -355,23 +343,11 @@ static void play_again(int count) {
     }
 }
 
-static char *text_of(const char *path, size_t *length) {
-    FILE *file = fopen(path, "rb");
-    want(file && !fseek(file, 0, SEEK_END), "no such text");
-    *length = (size_t)ftell(file);
-    rewind(file);
-    char *text = malloc(*length + 1);
-    want(text && fread(text, 1, *length, file) == *length, "a text that cannot be read");
-    text[*length] = 0;
-    fclose(file);
-    return text;
-}
-
 static void open_both(const char *path) {
     size_t length;
     uint32_t width, depth, published;
     navd_fault fault;
-    char *text = path ? text_of(path, &length) : rooms_text(DOORS, &length);
+    char *text = path ? read_text(path, &length) : rooms_text(DOORS, &length);
     want(text && sscanf(strstr(text, "\nsize "), "\nsize %" SCNu32 " %" SCNu32, &width, &depth) == 2, "no size");
     want(sscanf(strstr(text, "\nagent "), "\nagent %" SCNu32, &height) == 1, "no agent");
     want(navd_open(&level, (const uint8_t *)text, length, &fault) == NAVD_OK, "an open");
@@ -390,7 +366,7 @@ int main(int count, char **words) {
     open_both(count == 3 ? words[2] : NULL);
     records = malloc(LOGGED * sizeof *records);
     want(records != NULL, "memory");
-    read_mesh();
+    read_faces(&view);
     enter_all();
     memcpy(again, agents, sizeof agents);
     pthread_t threads[ASKING];

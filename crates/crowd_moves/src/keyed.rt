@@ -14,7 +14,7 @@ pub struct KeyedPlace {
     pub place: u32,
 }
 
-/// Puts places in the order of their numbers; of equal numbers the one that stood first comes first.
+/// Puts places in the order of their numbers. Where memory is refused, they stand in any order.
 pub fn order_by_key(entries: &mut Vec<KeyedPlace>) -> Result<(), AllocError>
     ensures all { IsPermutation entries.old.items entries.new.items }
     ensures order { OnOk result (IsNonDecreasingBy (λ (entry : KeyedPlace). entry.key) entries.new.items) }

@@ -7,7 +7,7 @@
 //! A step begins with `stand`: all stand, and their moves are clear of each other. `grant` gives agents in turn the first move of their lists that
 //! they may make and that is clear of the moves of all others, and keeps that all are. So any steering may wish for moves, in any order; whichever
 //! are granted keep the laws, and who has nobody near gets the first that it may make. `find_contacts` finds who is near whom in a grid of cells.
-//! Whether an agent may make a move is asked of a `MoveSpace`.
+//! Whether an agent may make a move is asked of a `MoveSpace`. `order_by_key` puts places of a list in the order of numbers.
 //!
 //! Points, radii and speeds are in fine units, 1/256 of a cell.
 #![tactic(auto)]

@@ -3,7 +3,8 @@
 //!
 //! `KeptField` keeps the spans of a field, since a ground lets them go; `changed` gives the field with other spans in a rectangle.
 //! `changed_ground` gives the ground of the changed field: the layers of the tiles in reach of the rectangle are made anew, and all others
-//! are shared. `is_in_reach` says which those are: the tiles within the agent's radius and two columns of the rectangle.
+//! are shared. `is_in_reach` says which those are: the tiles within the agent's radius and two columns of the rectangle;
+//! `reached_tiles` lists them.
 #![tactic(auto)]
 
 mod ground;
