@@ -42,7 +42,7 @@ pub(crate) fn entries(
     ensures { IfOk result (λ entries. AreEntries side agents.now entries.items) }
 {
     let mut entries = unsorted(alloc, agents, side)?;
-    order_by_key(&mut entries)?;
+    order_by_key(&mut entries);
     Ok(entries)
 }
 

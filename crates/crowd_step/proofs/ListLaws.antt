@@ -8,7 +8,7 @@ use Rattle.nav_base.specs.declared.point.Point.{Point}
 use Rattle.crowd_moves.specs.declared.agents.CrowdAgent.{CrowdAgent}
 use Rattle.crowd_moves.specs.Contacts.{begin_at, IsIn}
 use Rattle.crowd_moves.proofs.Elements.{slice_get_front, slice_get_last}
-use Rattle.crowd_step.specs.declared.memory.Thought.{Thought}
+use Rattle.crowd_step.specs.declared.steering.Thought.{Thought}
 use Rattle.crowd_step.specs.declared.steering.Steering.{Steering}
 use Rattle.crowd_step.specs.Lists.{AddsList, AreListed, Extends}
 use Rattle.crowd_step.specs.Steered.{SeesNobody}

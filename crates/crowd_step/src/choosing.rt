@@ -4,9 +4,8 @@ ghost use Rattle.crowd_step.specs.Steered.{IsFooting};
 
 use crate::fan::{Candidate, Choice, push_fan};
 use crate::footing::{Footing, walks};
-use crate::memory::Thought;
 use crate::planes::{Plane, breach, push_planes};
-use crate::steering::CrowdRules;
+use crate::steering::{CrowdRules, Thought};
 use crate::vectors::{NOWHERE, Turn, Vector, cut, dot, length, minus, part, ratio, turned};
 use crate::walkers::{Walker, goes_before};
 use std::alloc::AllocError;

@@ -11,13 +11,10 @@ ghost use Rattle.crowd_step.specs.Steered.{IsInSight, IsOtherInSight, SeesNobody
 
 use crate::choosing::{Scratch, choose};
 use crate::fan::Candidate;
-use crate::footing::Footing;
-use crate::memory::Thought;
-use crate::order::order_of;
-use crate::placed::placed_in;
-use crate::ranks::hand_ranks_on;
+use crate::footing::{Footing, placed_in};
+use crate::ranks::{hand_ranks_on, order_of};
 use crate::sights::{Sights, sights_of};
-use crate::steering::{CrowdRules, Steering};
+use crate::steering::{CrowdRules, Steering, Thought};
 use crate::vectors::{point_of, vector_of};
 use crate::walkers::{Walker, walkers_of};
 use crowd_moves::CrowdAgent;

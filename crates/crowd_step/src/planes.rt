@@ -71,19 +71,30 @@ fn push_against(
         share: if both_fast { 4 } else { 8 },
     };
     if goes_before(walkers, j, i) {
-        planes.push(plane_of(encounter))?;
+        push_if_broken(plane_of(encounter), own, planes)?;
         if other.meant != other.last || both_fast {
-            planes.push(plane_of(Encounter {
+            let meant = Encounter {
                 other: other.meant,
                 share: 8,
                 ..encounter
-            }))?;
+            };
+            push_if_broken(plane_of(meant), own, planes)?;
         }
     } else if both_fast {
-        planes.push(plane_of(Encounter {
+        let less = Encounter {
             share: 3,
             ..encounter
-        }))?;
+        };
+        push_if_broken(plane_of(less), own, planes)?;
+    }
+    Ok(())
+}
+
+/// Adds a half plane, unless no move of an agent breaks it. Moves that are tried are little longer than the speed, by their rounding.
+fn push_if_broken(plane: Plane, own: &Walker, planes: &mut Vec<Plane>) -> Result<(), AllocError> {
+    let most = own.speed.wrapping_add(own.speed / 8).wrapping_add(8);
+    if plane.least.wrapping_add(most.wrapping_mul(WHOLE)) > 0 {
+        planes.push(plane)?;
     }
     Ok(())
 }

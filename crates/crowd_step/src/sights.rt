@@ -148,24 +148,34 @@ fn push_seen(
 
 /// Puts an agent among the nearest, which are in order.
 fn insert_nearer(seen: &mut Vec<SeenAgent>, other: SeenAgent) -> Result<(), AllocError> {
+    if let Some(last) = seen.get(MOST_SEEN - 1) {
+        if !is_nearer(&other, last) {
+            return Ok(());
+        }
+    }
     seen.push(other)?;
     move_up(seen.as_mut_slice());
     seen.truncate(MOST_SEEN);
     Ok(())
 }
 
-/// Moves the last one in front of those that are farther; of those as far, the first place comes first.
+/// Moves the last one in front of those that are farther.
 fn move_up(seen: &mut [SeenAgent]) {
     let count = seen.len();
     for step in 1..count {
         let place = count - step;
         let (before, own) = (seen[place - 1], seen[place]);
-        if (before.square, before.place) <= (own.square, own.place) {
+        if !is_nearer(&own, &before) {
             return;
         }
         seen[place - 1] = own;
         seen[place] = before;
     }
+}
+
+/// Whether one agent is nearer than another; of those as far, the first place comes first.
+fn is_nearer(one: &SeenAgent, other: &SeenAgent) -> bool {
+    one.square < other.square || one.square == other.square && one.place < other.place
 }
 
 fn are_storeys_apart(height: u32, a: &Walker, b: &Walker) -> bool {

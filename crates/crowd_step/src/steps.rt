@@ -8,8 +8,7 @@ ghost use Rattle.crowd_step.specs.Kept.{AreWishesKept};
 ghost use Rattle.crowd_step.specs.Steered.{IsSteeredStep};
 
 use crate::intents::intents_of;
-use crate::memory::{Thought, remembered};
-use crate::steering::{CrowdRules, Steering};
+use crate::steering::{CrowdRules, Steering, Thought, remembered};
 use crowd_filter::step;
 use crowd_moves::{CrowdAgent, CrowdWishes};
 use mesh_types::Mesh;

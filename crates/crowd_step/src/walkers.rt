@@ -3,7 +3,7 @@
 ghost use Rattle.std.specs.Prelude.{◌≡◌, IfOk, length};
 
 use crate::steering::Steering;
-use crate::vectors::{NOWHERE, Vector, vector_of};
+use crate::vectors::{NOWHERE, Vector, dot, root, vector_of};
 use crowd_moves::CrowdAgent;
 use std::alloc::{AllocError, Global};
 
@@ -16,6 +16,7 @@ pub(crate) struct Walker {
     pub(crate) low: u32,
     pub(crate) high: u32,
     pub(crate) wish: Vector,
+    pub(crate) wish_length: i64,
     pub(crate) last: Vector,
     pub(crate) meant: Vector,
     pub(crate) idle: bool,
@@ -47,17 +48,19 @@ pub(crate) fn walkers_of(
 }
 
 fn walker_of(agent: &CrowdAgent, own: &Steering) -> Walker {
+    let wish = if own.idle {
+        NOWHERE
+    } else {
+        vector_of(own.wish)
+    };
     Walker {
         at: vector_of(agent.at),
         radius: i64::from(agent.radius),
         speed: i64::from(agent.speed),
         low: agent.low,
         high: agent.high,
-        wish: if own.idle {
-            NOWHERE
-        } else {
-            vector_of(own.wish)
-        },
+        wish,
+        wish_length: root(dot(wish, wish)),
         last: vector_of(own.last),
         meant: vector_of(own.meant),
         idle: own.idle,
@@ -90,6 +93,6 @@ pub(crate) fn goes_before(walkers: &[Walker], i: usize, j: usize) -> bool {
 /// Whether an agent's last move was at least half its speed.
 pub(crate) fn is_fast(walker: &Walker) -> bool {
     let last = walker.last;
-    let square = crate::vectors::dot(last, last);
+    let square = dot(last, last);
     square.wrapping_mul(4) >= walker.speed.wrapping_mul(walker.speed)
 }

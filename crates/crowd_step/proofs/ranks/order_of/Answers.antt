@@ -2,7 +2,7 @@ use Rattle.std.proofs.Common.{ap, ◌∙◌}
 use Rattle.std.specs.Prelude.{map}
 use Rattle.crowd_moves.specs.declared.keyed.KeyedPlace.{KeyedPlace}
 use Rattle.crowd_step.proofs.OrderLaws.{if_ok_on, named_sorted}
-use Rattle.crowd_step.proofs.order.order_of.Goals as goal
+use Rattle.crowd_step.proofs.ranks.order_of.Goals as goal
 
 pub returns : goal.returns
 returns c =

@@ -1,6 +1,6 @@
 use Rattle.crowd_filter.specs.CrowdAgents.{IsCrowdAgent}
 use Rattle.crowd_step.proofs.PlacedLaws.{all_more}
-use Rattle.crowd_step.proofs.placed.placed_in.Goals as goal
+use Rattle.crowd_step.proofs.footing.placed_in.Goals as goal
 
 pub loop-i-preserved : goal.loop-i-preserved
 loop-i-preserved c =

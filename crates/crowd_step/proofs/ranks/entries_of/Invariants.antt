@@ -1,5 +1,5 @@
 use Rattle.crowd_step.proofs.OrderLaws.{AreEnteredSo}
-use Rattle.crowd_step.proofs.order.entries_of.Given as goal
+use Rattle.crowd_step.proofs.ranks.entries_of.Given as goal
 
 -- the places so far have entries
 abbrev pub invariant-loop-i : goal.invariant-loop-i
