@@ -11,3 +11,5 @@ pub mod Shown
 pub mod Awaited
 pub mod Grounds
 pub mod Resting
+pub mod OverField
+pub mod FieldKept

@@ -1,6 +1,6 @@
 //! Kinds of agents over one ground, with one history.
 
-ghost use Rattle.std.specs.Prelude.{◌≡◌, ◌<◌, All, IfOk, IfSome, OnErr, OnOk, Some, length, map, slice_get};
+ghost use Rattle.std.specs.Prelude.{◌≡◌, ◌↔◌, ◌<◌, All, Err, IfOk, IfSome, OnErr, OnOk, Some, length, map, slice_get};
 ghost use Rattle.std.specs.List.{AllZip};
 ghost use Rattle.nav_ground.specs.Fields.{IsField};
 ghost use Rattle.nav_ground.specs.History.{IsRequest, alive_after};
@@ -13,8 +13,7 @@ ghost use Rattle.nav_book.specs.LevelResults.{published_mesh};
 ghost use Rattle.nav_book.specs.Openings.{ground_of};
 ghost use Rattle.nav_book.specs.Settling.{after_settle, after_step};
 ghost use Rattle.agent_kinds.specs.Firsts.{at_found, at_kind, first_awaited, first_claimable, first_job};
-ghost use Rattle.live_ground.specs.Changes.{AreSameOutside};
-ghost use Rattle.agent_kinds.specs.KindGrounds.{AreSameBeyond, after_change};
+ghost use Rattle.agent_kinds.specs.KindGrounds.{AreGroundsChanged, AreOver, AreSameBeyond, AreSpansOfKinds, AreTooMany};
 ghost use Rattle.agent_kinds.specs.Kinds.{AreKinds};
 ghost use Rattle.agent_kinds.specs.KindOpenings.{AreKindSettings, first_kinds};
 ghost use Rattle.agent_kinds.specs.KindSteps.{IsMeshOfKind, IsTileOfKind, after_publish_all, publication_by};
@@ -25,11 +24,11 @@ use crate::levels::{aim_all, length_shown, put_back_all, renew_all, request_all}
 use crate::opening::levels_of;
 use crate::publish::{KindsPublished, publish_kinds};
 use crate::settle::settle_all;
-use live_ground::KeptField;
+use live_ground::{ChangeRefusal, KeptField};
 use mesh_types::TileMesh;
 use nav_base::Steps;
 use nav_book::{HistoryFull, Job, Level, Submitted};
-use nav_ground::{Field, Reply, Request, Setting, TileNo, Window};
+use nav_ground::{Field, PackedSpan, Reply, Request, Setting, TileNo, Window};
 use nav_lists::{Items, Shared};
 use std::alloc::{AllocError, Global};
 use std::marker::Model;
@@ -39,6 +38,7 @@ use std::sync::ledger::Ledger;
 #[derive(Drop)]
 pub struct Kinds {
     levels: Vec<Level>,
+    field: KeptField,
 }
 
 impl Model for Kinds {
@@ -68,7 +68,8 @@ impl Kinds {
         ensures rules { IfOk result AreKinds }
     {
         let levels = levels_of(alloc, settings, field, steps)?;
-        Ok(Kinds { levels })
+        let field = KeptField::of(alloc, field)?;
+        Ok(Kinds { levels, field })
     }
 
     /// Appends a request of a lane to the history of all kinds, and gives the number of its entry, from 1, and its answer, which are those of each
@@ -188,26 +189,41 @@ impl Kinds {
         renew_all(self.levels.as_mut_slice(), alloc)
     }
 
-    /// Changes the ground of all kinds to that of another field, which differs from theirs in the columns of a rectangle alone: obstacles and entries
-    /// stay, no tile is claimed then, and each kind shows from then on what a level that is opened over the field for it alone shows with the published
-    /// entries. The tiles in reach of the rectangle are built, with one step each; all others stay. It comes where all that was aimed at is published,
-    /// which a publish would answer by `Same`; else nothing changes, and the answer is what a publish would be answered. Where memory is refused, nothing
-    /// has changed in any kind.
+    /// Changes the ground of all kinds to that of their field with other spans in the columns of a rectangle; without any, the columns are empty.
+    /// Obstacles and entries stay, no tile is claimed then, and each kind shows from then on what a level that is opened over the field for it alone
+    /// shows with the published entries. The tiles in reach of the rectangle are built, with one step each; all others stay. It comes where all that was
+    /// aimed at is published, which a publish would answer by `Same`; else nothing changes, and the answer is what a publish would be answered. Where
+    /// the field would have more than 2000000 spans, or memory is refused, nothing has changed in any kind.
     pub fn change_ground<L: Ledger>(
         &mut self,
         alloc: Global,
-        field: &KeptField,
         window: Window,
+        spans: &[PackedSpan],
         steps: &mut Steps<L>,
-    ) -> Result<KindsPublished, AllocError>
-        requires field { All (λ (state : BookState). AreSameOutside window state.ground.field field.now) self.old }
+    ) -> Result<KindsPublished, ChangeRefusal>
+        requires { All (AreSpansOfKinds window spans.now) self.old }
         ensures answer { IfOk result (λ told. All (λ (state : BookState). told ≡ publication_by (first_awaited self.old) state) self.old) }
-        ensures state { OnOk result (self.new ≡ after_change field.now self.old) }
+        ensures state { OnOk result (AreGroundsChanged window spans.now self.old self.new) }
         ensures differ { AllZip (AreSameBeyond window) self.old self.new }
+        ensures many { (result ≡ Err ChangeRefusal.TooManySpans) ↔ All (AreTooMany window spans.now) self.old }
         ensures refused { OnErr result (self.new ≡ self.old) }
         ensures rules { AreKinds self.new }
     {
-        change_grounds(self.levels.as_mut_slice(), alloc, field, window, steps)
+        let field = self.field.changed(alloc, window, spans)?;
+        let answer = change_grounds(self.levels.as_mut_slice(), alloc, &field, window, steps)?;
+        if let KindsPublished::Same { .. } = answer {
+            self.field = field;
+        }
+        Ok(answer)
+    }
+
+    /// The field that all kinds are over.
+    pub fn field(&self) -> &Field
+        ensures value { AreOver result.now self.now }
+        ensures rules { IsField result.now }
+        ensures kinds { AreKinds self.now }
+    {
+        self.field.field()
     }
 
     /// How many kinds there are.

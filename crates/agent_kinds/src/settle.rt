@@ -26,6 +26,7 @@ pub(crate) fn settle_all<L: Ledger>(
     ensures length { IfOk result (λ k. All (λ (state : BookState). k ≡ length state.history) levels.old) }
     ensures shown { OnOk result (All (λ (state : BookState). state.published ≡ length state.history) levels.new) }
     ensures history { map (λ (state : BookState). state.history) levels.new ≡ map (λ (state : BookState). state.history) levels.old }
+    ensures ground { map (λ (state : BookState). state.ground) levels.new ≡ map (λ (state : BookState). state.ground) levels.old }
     ensures refused { OnErr result (map published_mesh levels.new ≡ map published_mesh levels.old) }
     ensures rules { AreKinds levels.new }
 {

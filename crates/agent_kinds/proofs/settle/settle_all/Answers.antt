@@ -3,7 +3,7 @@ use Rattle.mesh_types.specs.Builds.{build_of}
 use Rattle.build_queue.specs.BookState.{BookState}
 use Rattle.nav_book.specs.LevelResults.{published_mesh}
 use Rattle.nav_book.specs.Settling.{after_settle, settling}
-use Rattle.nav_book.proofs.Settled.{settled_history}
+use Rattle.nav_book.proofs.Settled.{settled_history, settled_whole}
 use Rattle.agent_kinds.specs.Kinds.{IsShownAsBefore}
 use Rattle.agent_kinds.proofs.Published.{all_free, all_settled, length_told, map_same, map_zipped, on_refusal, settled_all, settling_all}
 use Rattle.agent_kinds.proofs.settle.settle_all.Goals as goal
@@ -67,3 +67,24 @@ returns-clause-history g c =
     (settled_all c.args.levels.now c.aim_all-k.new.levels c.build_all.new.levels c.publish_all.new.levels aimed c.in_ok-build_all.ensures.built
     c.in_ok-publish_all.ensures.state)
     ∙ map_same (λ (s : BookState). s.history) after_settle settled_history c.args.levels.now
+
+pub returns-in_err-build_all-clause-ground : goal.returns-in_err-build_all-clause-ground
+returns-in_err-build_all-clause-ground g c =
+    let aimed = settling_all c.args.levels.now c.put_back_all.new.levels c.aim_all-k.new.levels c.put_back_all.ensures.state c.aim_all-k.ensures.state in
+    map_zipped (λ (s : BookState). s.ground) IsShownAsBefore (λ a b shown. shown.ground) c.aim_all-k.new.levels c.build_all.new.levels c.build_all.ensures.same
+    ∙ ap (map (λ (s : BookState). s.ground)) aimed ∙ map_same (λ (s : BookState). s.ground) settling (λ s. refl) c.args.levels.now
+
+pub returns-in_err-publish_all-clause-ground : goal.returns-in_err-publish_all-clause-ground
+returns-in_err-publish_all-clause-ground g c =
+    let aimed = settling_all c.args.levels.now c.put_back_all.new.levels c.aim_all-k.new.levels c.put_back_all.ensures.state c.aim_all-k.ensures.state in
+    ap (map (λ (s : BookState). s.ground)) c.in_err-publish_all.ensures.refused
+    ∙ map_zipped (λ (s : BookState). s.ground) IsShownAsBefore (λ a b shown. shown.ground) c.aim_all-k.new.levels c.build_all.new.levels c.build_all.ensures.same
+    ∙ ap (map (λ (s : BookState). s.ground)) aimed ∙ map_same (λ (s : BookState). s.ground) settling (λ s. refl) c.args.levels.now
+
+pub returns-clause-ground : goal.returns-clause-ground
+returns-clause-ground g c =
+    let aimed = settling_all c.args.levels.now c.put_back_all.new.levels c.aim_all-k.new.levels c.put_back_all.ensures.state c.aim_all-k.ensures.state in
+    ap (map (λ (s : BookState). s.ground))
+    (settled_all c.args.levels.now c.aim_all-k.new.levels c.build_all.new.levels c.publish_all.new.levels aimed c.in_ok-build_all.ensures.built
+    c.in_ok-publish_all.ensures.state)
+    ∙ map_same (λ (s : BookState). s.ground) after_settle settled_whole c.args.levels.now
