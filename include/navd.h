@@ -175,6 +175,11 @@ typedef struct {
     uint32_t x, z, bottom, top, area;
 } navd_span;
 
+/* A rectangle of columns: x0 to x1 and z0 to z1. */
+typedef struct {
+    uint32_t x0, x1, z0, z1;
+} navd_columns;
+
 /* A triangle that fails: how many stand before it, and why. 1: it names a vertex that there is none of. 2: a number is none, or infinite. 3: a corner
  * lies outside the field. 4: its area is above 63. */
 typedef struct {
@@ -770,6 +775,15 @@ uint32_t navd_kinds_step(navd_kinds *kinds, uint32_t *kind, uint32_t *tile);
  * NAVD_OK. NAVD_SAME: the target was published before. NAVD_NOT_YET: the least kind in which a tile is awaited is left at `kind`, and that tile at
  * `number`. NAVD_EMPTY. NAVD_NO_MEMORY: only where the target is to be published; nothing was done in any kind. */
 uint32_t navd_kinds_publish(navd_kinds *kinds, uint32_t *kind, uint32_t *number);
+
+/* Changes the ground of all kinds: other spans stand in the columns of a rectangle, in the order of navd_kinds_open, and none where `count` is 0. The tiles
+ * within an agent's radius and two columns of it are built; then each kind shows what it would show had it been opened over the changed ground, with the
+ * entries that are published. No tile is claimed then, and a job claimed before is NAVD_FOREIGN where its tile's cells changed. So a level streams:
+ * opened without spans, it gets a block's as it comes, and none as it goes; who asks near the rim of what is loaded loads a tile more.
+ * NAVD_OK. NAVD_EMPTY. NAVD_OUT_OF_RANGE: the rectangle runs backwards or leaves the ground, or a span leaves it, or a number or the order of the spans.
+ * NAVD_TOO_MANY_SPANS: more than 2000000 then. NAVD_NOT_YET: not all that was aimed at is published. NAVD_NO_MEMORY: in place of either too. In these
+ * nothing was done. Memory: 10 bytes for each span of the ground while it is held, and as many more while it changes. */
+uint32_t navd_kinds_change_ground(navd_kinds *kinds, const navd_columns *columns, const navd_span *spans, size_t count);
 
 /* Jobs of kinds: each call is that of a level with kinds in its place. A claim gives the least tile of the least kind that has one, and leaves that kind at
  * `kind`; the job is handed in or put back to it. To another kind it is NAVD_FOREIGN, but where the two are alike in all numbers.

@@ -4,7 +4,7 @@
  *
  * First small grounds are opened, of which another program told the polygons and ways. Then a guard keeps one cell from walls, a cart three, on tiles of
  * its own, over a ground with a narrow gap and a wide one: doors are added and removed, and each kind has the ways that its width leaves; what is refused
- * changes nothing, and a publish is seen by both kinds or by none. Last, for FRAMES frames, doors come and go at random; they are settled, or built by
+ * changes nothing, and a publish is seen by both kinds or by none. Then the ground comes in two blocks, and one of them goes and comes again. Last, for FRAMES frames, doors come and go at random; they are settled, or built by
  * jobs, and then the mesh of each kind is that of a level opened for it alone with the same requests: its counts, and the ways through the wall. It ends
  * with 1 where something is not. */
 #define _POSIX_C_SOURCE 200809L
@@ -220,6 +220,47 @@ static void compare(navd_kinds *kinds, navd_level *levels) {
     }
 }
 
+/* The columns x0 to x1 come with their spans, or go. */
+static uint32_t load(navd_kinds *kinds, uint32_t x0, uint32_t x1, bool comes) {
+    static navd_span some[COLUMNS];
+    size_t count = 0;
+    for (int at = 0; comes && at < COLUMNS; at++)
+        if (spans[at].x >= x0 && spans[at].x <= x1) some[count++] = spans[at];
+    return navd_kinds_change_ground(kinds, &(navd_columns){x0, x1, 0, SIDE - 1}, some, count);
+}
+
+static void refuse_changes(navd_kinds *kinds) {
+    navd_span pair[2] = {spans[1], spans[0]}, high = {0, 0, 0, 8192, 63};
+    navd_columns beside = {0, SIDE, 0, 0}, back = {1, 0, 0, 0}, column = {0, 0, 0, 0}, two = {0, 1, 0, 0};
+    want(navd_kinds_change_ground(kinds, &beside, pair, 0) == NAVD_OUT_OF_RANGE, "columns beside the ground");
+    want(navd_kinds_change_ground(kinds, &back, pair, 0) == NAVD_OUT_OF_RANGE, "a rectangle that runs backwards");
+    want(navd_kinds_change_ground(kinds, &column, pair, 1) == NAVD_OUT_OF_RANGE, "a span beside the rectangle");
+    want(navd_kinds_change_ground(kinds, &two, pair, 2) == NAVD_OUT_OF_RANGE, "spans out of order");
+    want(navd_kinds_change_ground(kinds, &column, &high, 1) == NAVD_OUT_OF_RANGE, "a span that is too high");
+}
+
+/* The ground streams: it comes in two blocks, one goes and comes again. Once all is there, each kind is its level alone; what is refused changes nothing. */
+static void play_changes(navd_kinds *kinds) {
+    navd_level levels[KINDS] = {level_of(GUARD), level_of(CART)};
+    navd_block block = door(0);
+    uint32_t number, entry, other;
+    want(load(kinds, 0, 31, true) == NAVD_EMPTY && open_by(kinds, agents, KINDS, 0) == NAVD_OK && polygons_of(kinds, GUARD) == 0, "nothing is loaded");
+    want(load(kinds, 0, 31, true) == NAVD_OK && polygons_of(kinds, GUARD) > 0 && !is_open_for(kinds, GUARD, &number), "one half");
+    want(load(kinds, 32, SIDE - 1, true) == NAVD_OK && is_open_for(kinds, GUARD, &number), "and the other");
+    compare(kinds, levels);
+    refuse_changes(kinds);
+    want(navd_kinds_add_block(kinds, &block, 0, &entry) == NAVD_OK && navd_kinds_aim(kinds, &number) == NAVD_OK, "a door");
+    want(load(kinds, 0, 31, false) == NAVD_NOT_YET && navd_kinds_settle(kinds, &number) == NAVD_OK && number == entry, "it is not published");
+    for (uint32_t kind = 0; kind < KINDS; kind++)
+        want(navd_add_block(&levels[kind], &block, 0, &other) == NAVD_OK && navd_settle(&levels[kind], &other) == NAVD_OK && other == number, "and in levels");
+    compare(kinds, levels);
+    want(load(kinds, 32, SIDE - 1, false) == NAVD_OK && !is_open_for(kinds, CART, &number) && number == entry, "a half goes");
+    want(load(kinds, 32, SIDE - 1, true) == NAVD_OK && is_open_for(kinds, CART, &number), "and comes");
+    compare(kinds, levels);
+    for (uint32_t kind = 0; kind < KINDS; kind++) navd_close(&levels[kind]);
+    navd_kinds_close(kinds);
+}
+
 static void play_frames(navd_kinds *kinds, uint32_t frames) {
     navd_level levels[KINDS] = {level_of(GUARD), level_of(CART)};
     uint32_t doors[DOORS] = {0}, entry, other, number, builds = 0;
@@ -254,6 +295,7 @@ int main(int argc, char **argv) {
     play_rows(&kinds);
     refuse(&kinds);
     play(&kinds);
+    play_changes(&kinds);
     play_frames(&kinds, argc > 1 ? (uint32_t)strtoul(argv[1], NULL, 10) : 200);
     navd_kinds_close(&kinds);
     return 0;

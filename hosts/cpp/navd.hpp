@@ -463,6 +463,10 @@ public:
             return end == NAVD_NO_ROOM ? NAVD_OK : end; // nothing was done, and the count is more than the room
         });
     }
+    // Other spans in the columns of a rectangle, or none.
+    Status change_ground(const navd_columns &columns, Array<navd_span> spans) noexcept {
+        return Status{navd_kinds_change_ground(&handle, &columns, detail::address(spans.data()), spans.size())};
+    }
     Status count(uint32_t kind, navd_counts &counts) noexcept { return Status{navd_kinds_count(&handle, kind, &counts)}; }
 };
 

@@ -235,6 +235,13 @@ namespace Navd
         public uint X, Z, Bottom, Top, Area;
     }
 
+    /// <summary>A rectangle of columns: X0 to X1 and Z0 to Z1.</summary>
+    [StructLayout(LayoutKind.Sequential)]
+    public struct Columns
+    {
+        public uint X0, X1, Z0, Z1;
+    }
+
     /// <summary>An obstacle of a registry: a block (Kind 0), a cylinder (1), a prism (2) or a disc (3), with the area that it gives, or 0 where it stops
     /// agents. The numbers of what it is not are not read, and are told as 0.</summary>
     [StructLayout(LayoutKind.Sequential)]
@@ -655,6 +662,8 @@ namespace Navd
         internal static extern Status navd_kinds_aim(KindsHandle kinds, out uint target);
         [DllImport(Library)]
         internal static extern Status navd_kinds_renew(KindsHandle kinds, [Out] uint[] numbers, UIntPtr room, out UIntPtr count);
+        [DllImport(Library)]
+        internal static extern Status navd_kinds_change_ground(KindsHandle kinds, ref Columns columns, Span[] spans, UIntPtr count);
         [DllImport(Library)]
         internal static extern Status navd_kinds_claim(KindsHandle kinds, JobHandle job, out uint kind, out uint tile);
         [DllImport(Library)]
@@ -1828,6 +1837,12 @@ namespace Navd
                 status = Native.navd_kinds_renew(kinds, numbers.Items, numbers.Length, out count);
             } while (!numbers.Takes(status == Status.Ok || status == Status.NoRoom, count));
             return status;
+        }
+
+        /// <summary>Other spans in the columns of a rectangle, in the order of Open, or none.</summary>
+        public Status ChangeGround(Columns columns, Span[] spans)
+        {
+            return Native.navd_kinds_change_ground(kinds, ref columns, Given.Items(spans, "spans"), Given.Length(spans));
         }
 
         public Status Count(uint kind, out Counts counts)

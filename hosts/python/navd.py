@@ -80,6 +80,10 @@ class _Span(Structure):
     _fields_ = [(name, c_uint32) for name in ("x", "z", "bottom", "top", "area")]
 
 
+class _Columns(Structure):
+    _fields_ = [(name, c_uint32) for name in ("x0", "x1", "z0", "z1")]
+
+
 class _Solid(Structure):
     _fields_ = [("kind", c_uint32), ("area", c_uint32), ("block", _Block), ("cylinder", _Cylinder), ("prism", _Prism), ("disc", _Disc)]
 
@@ -648,6 +652,7 @@ def _library():
         "navd_kinds_settle": [handle, number],
         "navd_kinds_aim": [handle, number],
         "navd_kinds_renew": [handle, number, c_size_t, count],
+        "navd_kinds_change_ground": [handle, POINTER(_Columns), POINTER(_Span), c_size_t],
         "navd_kinds_claim": [handle, handle, number, number],
         "navd_kinds_submit": [handle, c_uint32, handle],
         "navd_kinds_put_back": [handle, c_uint32, handle],
@@ -1172,6 +1177,10 @@ class Kinds:
         kind, number = c_uint32(), c_uint32()
         status = self._do("publish", byref(kind), byref(number), allowed=(OK, SAME, NOT_YET))
         return Awaited(kind.value, number.value) if status == NOT_YET else number.value
+
+    def change_ground(self, x0, x1, z0, z1, spans):
+        """Other spans stand in the columns x0 to x1 and z0 to z1, or none. It raises NOT_YET where not all that was aimed at is published."""
+        self._do("change_ground", byref(_Columns(x0, x1, z0, z1)), _array(_Span, spans), len(spans))
 
     def renew(self):
         """Begins the history again: the numbers that the obstacles had, of which the n-th has the number n from then on."""

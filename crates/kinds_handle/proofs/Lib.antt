@@ -8,3 +8,4 @@ mod Words
 mod Crossing
 mod KindPlaces
 mod ClaimLaws
+mod GroundSpans

@@ -5,3 +5,4 @@ pub mod KindRequests
 pub mod KindsSteps
 pub mod KindRenewals
 pub mod KindJobs
+pub mod KindGroundChanges

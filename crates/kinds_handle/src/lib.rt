@@ -4,9 +4,10 @@
 //! spans, once all numbers are in their limits and the spans in their order (`specs/KindSettings`, `specs/KindSpans`, `specs/KindsOpened`). A request
 //! is one entry of all kinds, and ends as in each of them (`specs/KindRequests`); a step, a publish and a settle are those of `agent_kinds`, told by
 //! status and numbers (`specs/KindsSteps`), as is a renewal (`specs/KindRenewals`). A job is claimed with its kind, and handed in or put back to that
-//! (`specs/KindJobs`). `kind_level` gives the level of a kind, of which views are made.
+//! (`specs/KindJobs`). The ground changes by other spans in a rectangle of columns (`specs/KindGroundChanges`). `kind_level` gives the level of a kind, of which views are made.
 #![tactic(auto)]
 
+mod ground;
 mod handle;
 mod jobs;
 mod levels;
@@ -18,6 +19,7 @@ mod spans;
 mod steps;
 mod wire;
 
+pub use ground::change_ground_of_kinds;
 pub use handle::NavdKinds;
 pub use jobs::{claim_of_kinds, put_back_to_kind, submit_to_kind};
 pub use levels::kind_level;
@@ -25,4 +27,4 @@ pub use opening::{close_kinds, open_kinds};
 pub use renewal::renew_kinds;
 pub use requests::{add_to_kinds, remove_from_kinds, reply_status};
 pub use steps::{aim_kinds, free_kinds, publish_kinds, settle_kinds, step_kinds};
-pub use wire::{NavdGround, NavdKind, NavdSpan};
+pub use wire::{NavdColumns, NavdGround, NavdKind, NavdSpan};

@@ -42,3 +42,13 @@ pub struct NavdSpan {
     pub top: u32,
     pub area: u32,
 }
+
+/// A rectangle of columns: those from x0 to x1 and from z0 to z1.
+#[repr(C)]
+#[derive(Clone, Copy)]
+pub struct NavdColumns {
+    pub x0: u32,
+    pub x1: u32,
+    pub z0: u32,
+    pub z1: u32,
+}

@@ -1,6 +1,7 @@
 //! Kinds of agents over the border: opened over one ground, built, shown in all of them at once, looked at one by one, and closed.
 
 ghost use Rattle.std.specs.Prelude.{◌≡◌, None, slice_get};
+ghost use Rattle.kinds_handle.specs.KindGroundChanges.{IsGroundChange};
 ghost use Rattle.kinds_handle.specs.KindRenewals.{AreRenewed};
 ghost use Rattle.kinds_handle.specs.KindSettings.{costs_said};
 ghost use Rattle.kinds_handle.specs.KindsOpened.{IsKindsOpening};
@@ -11,8 +12,8 @@ use crate::questions::level_counts;
 use crate::views::next_view;
 use agent_kinds::Kinds;
 use kinds_handle::{
-    NavdGround, NavdKind, NavdKinds, NavdSpan, aim_kinds, close_kinds, kind_level, open_kinds,
-    publish_kinds, renew_kinds, settle_kinds, step_kinds,
+    NavdColumns, NavdGround, NavdKind, NavdKinds, NavdSpan, aim_kinds, change_ground_of_kinds,
+    close_kinds, kind_level, open_kinds, publish_kinds, renew_kinds, settle_kinds, step_kinds,
 };
 use nav_handle::{EMPTY, NO_MEMORY, NavdCounts, NavdView, OK, OUT_OF_RANGE};
 use std::alloc::Global;
@@ -100,6 +101,20 @@ pub extern "C" fn navd_kinds_renew(
         (record { status = result; held = kinds.new.kinds; told = (count.new, numbers.new) }) }
 {
     renew_kinds(alloc, kinds, numbers, count)
+}
+
+/// Changes the ground of all kinds to that of their field with these spans in the columns of a rectangle, where all that was aimed at is published;
+/// without any, the columns are empty.
+#[unsafe(no_mangle)]
+pub extern "C" fn navd_kinds_change_ground(
+    alloc: Global,
+    kinds: &mut NavdKinds,
+    columns: &NavdColumns,
+    spans: &[NavdSpan],
+) -> u32
+    ensures { IsGroundChange columns.now spans.now kinds.old.kinds (record { status = result; held = kinds.new.kinds }) }
+{
+    change_ground_of_kinds(alloc, kinds, columns, spans)
 }
 
 fn look(alloc: Global, view: &mut NavdView, held: &Kinds, kind: u32, published: &mut u32) -> u32

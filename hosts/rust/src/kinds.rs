@@ -1,6 +1,6 @@
 //! Kinds: levels of several kinds of agents over one ground, with one history.
 
-use crate::{done, error_of, sys, Block, Counts, Cylinder, Disc, Error, Ground, Kind, Prism, Span, View};
+use crate::{done, error_of, sys, Block, Columns, Counts, Cylinder, Disc, Error, Ground, Kind, Prism, Span, View};
 use std::ptr::null_mut;
 
 /// Levels of several kinds of agents, by their numbers from 0. A request is one entry of all of them, and what is published is shown in all or in none.
@@ -110,6 +110,14 @@ impl Kinds {
                 numbers.truncate(count);
                 numbers
             }),
+        }
+    }
+
+    /// Other spans stand in the columns of a rectangle, in the order of `open`, or none.
+    pub fn change_ground(&mut self, columns: &Columns, spans: &[Span]) -> Result<(), Error> {
+        match unsafe { sys::navd_kinds_change_ground(&mut self.handle, columns, spans.as_ptr(), spans.len()) } {
+            sys::NOT_YET => Err(Error::NotPublished),
+            status => done((status, 0)).map(|_| ()),
         }
     }
 

@@ -42,7 +42,7 @@ pub use places::{Drawn, MeshPlace, Near};
 pub use registry::{Registry, Row, Solid, Updated};
 pub use repairs::{Repair, Repaired};
 pub use sys::{
-    Agent, Block, Corner, Counts, Crowd, Cylinder, Disc, Face, Fine, Floor, Ground, Jump, Kind, Link, Point, Polygon, Prism, Reached, Shown,
+    Agent, Block, Columns, Corner, Counts, Crowd, Cylinder, Disc, Face, Fine, Floor, Ground, Jump, Kind, Link, Point, Polygon, Prism, Reached, Shown,
     Span, Turn, Wall,
 };
 pub use walks::{Hop, Step, Walker};

@@ -121,6 +121,16 @@ pub struct Span {
     pub area: u32,
 }
 
+/// A rectangle of columns: x0 to x1 and z0 to z1.
+#[repr(C)]
+#[derive(Clone, Copy, Default, Debug, PartialEq, Eq)]
+pub struct Columns {
+    pub x0: u32,
+    pub x1: u32,
+    pub z0: u32,
+    pub z1: u32,
+}
+
 /// An obstacle of a registry: its kind, the area that it gives or 0, and its numbers; those of what it is not are not read.
 #[repr(C)]
 #[derive(Clone, Copy, Default)]
@@ -736,6 +746,7 @@ extern "C" {
     pub fn navd_kinds_settle(kinds: *mut Handle, published: *mut u32) -> u32;
     pub fn navd_kinds_aim(kinds: *mut Handle, target: *mut u32) -> u32;
     pub fn navd_kinds_renew(kinds: *mut Handle, numbers: *mut u32, room: usize, count: *mut usize) -> u32;
+    pub fn navd_kinds_change_ground(kinds: *mut Handle, columns: *const Columns, spans: *const Span, count: usize) -> u32;
     pub fn navd_kinds_claim(kinds: *mut Handle, job: *mut Handle, kind: *mut u32, tile: *mut u32) -> u32;
     pub fn navd_kinds_submit(kinds: *mut Handle, kind: u32, job: *mut Handle) -> u32;
     pub fn navd_kinds_put_back(kinds: *mut Handle, kind: u32, job: *mut Handle) -> u32;
