@@ -110,11 +110,68 @@ def by_steps(book, ground):
     yield "publish", random.randrange(2**32)
 
 
+def random_columns(ground):
+    """A rectangle of columns: one, a few, whole rows, or all."""
+    def ends(count):
+        first = random.randrange(count)
+        return random.choice([(first, first), (first, min(count - 1, first + random.randrange(6))), (0, first), (first, count - 1), (0, count - 1)])
+    return *ends(ground.width), *ends(ground.depth)
+
+
+def other_spans(ground, columns):
+    """Spans for the columns of a rectangle: none, those that are there, some of them, other areas, tops or bottoms, or a flat floor."""
+    x0, x1, z0, z1 = columns
+    there = [span for span in ground.spans if x0 <= span[0] <= x1 and z0 <= span[1] <= z1]
+    case = random.randrange(7)
+    if case == 0:
+        return ()
+    if case == 1:
+        return tuple(there)
+    if case == 2:
+        return tuple(span for span in there if random.randrange(4))
+    if case == 3:
+        return tuple((*span[:4], random.choice([0, 1, 5, 63])) for span in there)
+    if case == 4:
+        return tuple((x, z, bottom, max(bottom + 1, top - random.choice([0, 0, 1, 3])), area) for x, z, bottom, top, area in there)
+    low, high = random.choice([(0, 40), (0, 44), (30, 41)]), random.choice([60, 200])
+    floor = [(x, z, *low, random.choice([0, 1, 1, 63])) for z in range(z0, z1 + 1) for x in range(x0, x1 + 1) if random.randrange(12)]
+    return tuple(floor) if case == 5 else tuple(span for at in floor for span in [at] + [(*at[:2], high, high + 8, 1)] * random.randrange(2))
+
+
+def bad_change(ground, columns, spans):
+    """A change of which one number, or the order of the spans, is wrong."""
+    x0, x1, z0, z1 = columns
+    case = random.randrange(5 if spans else 2)
+    if case == 0:
+        return random.choice([(x0, ground.width, z0, z1), (x0, x1, z0, ground.depth), (x1 + 1, x1, z0, z1), (x0, x1, z1 + 1, z1), (2**32 - 1, x1, z0, z1),
+                              (x0, 2**31, z0, z1), (x0, 2**32 - 1, z0, 2**32 - 1)]), spans
+    if case == 1:
+        return columns, (*spans, random.choice([(x1 + 1, z1, 8000, 8001, 1), (x1, z1 + 1, 0, 1, 1), (x1, z1, 8191, 8192, 1)]))
+    place = random.randrange(len(spans))
+    one = spans[place]
+    wrong = random.choice([(*one[:3], one[2], one[4]), (*one[:4], 64), (*one[:2], one[3], one[2], one[4]), (ground.width, *one[1:])])
+    if case == 2:
+        return columns, (*spans[:place], wrong, *spans[place + 1:])
+    return columns, (*spans[:place], one, *spans[place:]) if case == 3 else (*spans[1:], spans[0], spans[0])
+
+
+def to_change(ground):
+    """A change of the ground, as a rule once all is published; now and then one that is refused."""
+    columns = random_columns(ground)
+    spans = other_spans(ground, columns)
+    if random.randrange(8) == 0:
+        columns, spans = bad_change(ground, columns, spans)
+    seed = random.randrange(2**32)
+    return [("settle", random.randrange(2**32))] * (random.randrange(4) > 0) + [("change_ground", columns, spans, seed)]
+
+
 def random_act(book, ground, agents):
     """One act, or a few that belong together."""
     choice = random.randrange(100)
-    if choice < 22:
+    if choice < 18:
         return [("add", random_shape(ground))]
+    if choice < 26:
+        return to_change(ground)
     if choice < 30:
         return [("remove", random_number(book))]
     if choice < 40 and book.alive[-1]:

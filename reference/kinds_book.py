@@ -34,10 +34,11 @@ def is_shape(shape):
 
 
 class Job:
-    """What a job's handle holds: the numbers of the kind of which it is, its tile, the shapes that it is built with, and whether it is built."""
+    """What a job's handle holds: the numbers of the kind of which it is, its tile, the shapes that it is built with, the cells of the tile, and whether it is
+    built."""
 
-    def __init__(self, like, tile, shapes):
-        self.like, self.tile, self.shapes, self.is_built = like, tile, shapes, False
+    def __init__(self, like, tile, shapes, cells):
+        self.like, self.tile, self.shapes, self.cells, self.is_built = like, tile, shapes, cells, False
 
 
 class Book:
@@ -121,6 +122,19 @@ class Book:
         self.put_back_all()
         return navd.OK, [number for number, _ in there] + [UNTOLD] * (room - len(there)), len(there)
 
+    # == The ground ==
+
+    def change_ground(self, ground, columns, spans):
+        """How a change ends; where it comes, `over` has what is held then."""
+        if not ground.takes(columns, spans):
+            return (navd.OUT_OF_RANGE,)
+        return (navd.NOT_YET if self.target != self.published or any(self.awaited()) else navd.OK,)
+
+    def over(self, kinds):
+        """The same kinds over another ground of this size."""
+        self.kinds = kinds
+        self.put_back_all()
+
     # == Jobs ==
 
     def claim(self, job):
@@ -128,7 +142,7 @@ class Book:
             return navd.BUSY, UNTOLD, UNTOLD
         for kind, tile in self.claimable():
             self.claimed[kind].add(tile)
-            self.jobs[job] = Job(self.kinds[kind].agent.normal(), tile, self.wanted(kind, tile))
+            self.jobs[job] = Job(self.kinds[kind].agent.normal(), tile, self.wanted(kind, tile), self.kinds[kind].cells_of(tile))
             return navd.OK, kind, tile
         return navd.SAME, UNTOLD, UNTOLD
 
@@ -145,7 +159,8 @@ class Book:
             return navd.EMPTY
         if kind >= len(self.kinds):
             return navd.OUT_OF_RANGE
-        return navd.FOREIGN if self.jobs[job].like != self.kinds[kind].agent.normal() else None
+        it, of = self.jobs[job], self.kinds[kind]
+        return None if it.like == of.agent.normal() and it.cells == of.cells_of(it.tile) else navd.FOREIGN
 
     def submit(self, kind, job):
         it, refused = self.jobs[job], self.is_refused(kind, job)

@@ -4,7 +4,7 @@ from ctypes import byref, c_size_t, c_uint32
 from dataclasses import astuple
 
 import navd
-from navd import _Block, _Counts, _Cylinder, _Disc, _Ground, _Handle, _Kind, _Point, _Prism, _Span
+from navd import _Block, _Columns, _Counts, _Cylinder, _Disc, _Ground, _Handle, _Kind, _Point, _Prism, _Span
 
 UNTOLD = 77777777
 
@@ -77,6 +77,10 @@ class Calls:
     def renew(self, room):
         numbers, count = (c_uint32 * max(1, room))(*[UNTOLD] * room), c_size_t(UNTOLD)
         return self.call("renew", numbers, room, byref(count)), list(numbers[:room]), count.value
+
+    def change_ground(self, ground, columns, spans):
+        """Other spans in the columns x0 to x1 and z0 to z1 of the ground."""
+        return (self.call("change_ground", byref(_Columns(*columns)), array(_Span, spans), len(spans)),)
 
     def claim(self, job):
         return self.told("claim", 2, byref(self.jobs[job]))

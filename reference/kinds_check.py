@@ -1,6 +1,6 @@
 #!/usr/bin/env python3
 """Checks kinds of agents over one ground, which the library holds with one history: random small grounds with 1 to 4 kinds, whose heights, climbs, radii,
-clearance and tiles differ in all, in one number or in none. Blocks, cylinders, prisms and discs come, go, are switched off and on, and are refused; tiles are
+clearance and tiles differ in all, in one number or in none. The ground changes in rectangles of columns: it comes, goes and is built anew. Blocks, cylinders, prisms and discs come, go, are switched off and on, and are refused; tiles are
 built at once, step by step, or by jobs that go astray; the history begins again, the handle is opened again, and calls are refused. Memory is refused too
 where LIBRARY is made with `refusing.c` in place of the heap of hosts/c.
 
@@ -32,7 +32,7 @@ from kinds_views import agree, ask, shown
 from solids import is_over, is_over_by_parts
 
 # Calls that may want memory.
-WANT_MEMORY = ("settle", "step", "publish", "renew", "claim", "build")
+WANT_MEMORY = ("settle", "step", "publish", "renew", "claim", "build", "change_ground")
 
 
 class Play:
@@ -102,6 +102,8 @@ class Play:
             self.refused_open(*words)
         elif name in ("settle", "publish"):
             self.show(name, words[0], after)
+        elif name == "change_ground":
+            self.change_ground(*words, after)
         else:
             before = self.book.length()
             status = self.both(name, *words, after=after)
@@ -122,6 +124,20 @@ class Play:
             self.show(name, seed, 0)
         else:
             self.unchanged()
+
+    def change_ground(self, columns, spans, seed, after):
+        """Other spans in a rectangle of columns: the kinds are then as kinds that are opened over the changed ground, with the entries that are published."""
+        status = self.both("change_ground", self.ground, columns, spans, after=after)
+        if status != navd.OK:
+            self.unchanged()
+            return
+        self.ground = self.ground.changed(columns, spans)
+        self.kinds = [Kind(self.ground, kind.agent) for kind in self.kinds]
+        self.book.over(self.kinds)
+        for level in self.alone:
+            level.close()
+        self.alone, self.given = [Alone(kind.text) for kind in self.kinds], 0
+        self.compare(seed)
 
     def refused_open(self, ground, agents, spans, costs):
         """Kinds that cannot be opened: those that are held stay."""
@@ -215,7 +231,7 @@ class Play:
         for name, words, due in (("add", (shape,), (empty, 0)), ("add", (("block", (1, 0, 0, 0, 0, 0), None),), (navd.OUT_OF_RANGE, 0)),
                                  ("remove", (1,), (empty, 0)), ("aim", (), (empty, untold)), ("settle", (), (empty, untold)),
                                  ("step", (), (empty, untold, untold)), ("publish", (), (empty, untold, untold)), ("renew", (1,), (empty, [untold], untold)),
-                                 ("claim", (0,), (empty, untold, untold)), ("submit", (0, 0), (empty,)), ("put_back", (0, 0), (empty,)),
+                                 ("change_ground", (self.ground, (0, 0, 0, 0), ()), (empty,)), ("claim", (0,), (empty, untold, untold)), ("submit", (0, 0), (empty,)), ("put_back", (0, 0), (empty,)),
                                  ("put_back_all", (), (empty,)), ("count", (0,), (empty, (untold,) * 6)), ("look", (self.views[0], 0), (empty, untold))):
             agree(f"{name} of nothing", getattr(self.calls, name)(*words), due)
 
@@ -238,7 +254,7 @@ def run(seed):
     play = Play(ground, agents, counts)
     try:
         for _ in range(random.randrange(5, 25)):
-            for act in random_act(play.book, ground, agents):
+            for act in random_act(play.book, play.ground, agents):
                 if random.randrange(4) == 0 and act[0] != "refused_open":
                     act = ("refused", random.choice([1, 1, 2, 3, random.randrange(1, 20), random.randrange(1, 200)]), *act)
                 acts.append(act)

@@ -4,7 +4,7 @@ Shapes stand as in `solids.py`: blocks and cylinders as in `play_check.py`.
 """
 import math
 import random
-from dataclasses import astuple, dataclass
+from dataclasses import astuple, dataclass, replace
 
 from library import level_text
 from places_levels import Columns
@@ -36,6 +36,19 @@ class Ground:
     spans: tuple
     costs: tuple
 
+    def takes(self, columns, spans):
+        """Whether the columns x0 to x1 and z0 to z1 lie in the ground and may get these spans, which stand in order."""
+        x0, x1, z0, z1 = columns
+        return (x0 <= x1 < self.width and z0 <= z1 < self.depth
+                and all(x0 <= x <= x1 and z0 <= z <= z1 and bottom < top <= 8191 and area <= 63 for x, z, bottom, top, area in spans)
+                and all((a[1], a[0]) < (b[1], b[0]) or a[:2] == b[:2] and a[3] <= b[2] for a, b in zip(spans, spans[1:])))
+
+    def changed(self, columns, spans):
+        """The ground with these spans in the columns in place of those that stand there."""
+        x0, x1, z0, z1 = columns
+        kept = [span for span in self.spans if not (x0 <= span[0] <= x1 and z0 <= span[1] <= z1)]
+        return replace(self, spans=tuple(sorted([*kept, *spans], key=lambda span: (span[1], span[0], span[2]))))
+
     def text(self, agent):
         """The field text of a level of one kind."""
         form = 2 if agent.clear else 1
@@ -61,6 +74,24 @@ class Kind:
                 self.touched[shape, tile] = self.names["touches"](shape, tile)
             found += [shape] * self.touched[shape, tile]
         return tuple(found)
+
+    def cells_of(self, tile):
+        """The cells of which the meshes of a tile are made: those that are kept, by their places, with the neighbours that are kept; and where agents keep
+        their radius from obstacles too, all round it, with all their neighbours."""
+        names = self.names
+        place_of, kept, cells = names["place_of"], names["kept_at"], names["cells"]
+        x0, x1, z0, z1 = names["window"](tile)
+
+        def told(cell, among):
+            return tuple(cell[:3]), tuple(by is not None and (place_of[id(by)] if place_of[id(by)] in among else None) for by in cell[3])
+
+        own = {place: told(cell, kept) for place, cell in kept.items() if x0 <= place[0] <= x1 and z0 <= place[1] <= z1}
+        if not names["clear"]:
+            return own, None
+        margin, every = names["margin"], place_of.values()
+        every = set(every)
+        return own, {place_of[id(cell)]: told(cell, every) for (x, z), column in cells.items() for cell in column
+                     if x0 - margin <= x <= x1 + margin and z0 - margin <= z <= z1 + margin}
 
     def publish(self, shapes, length):
         """The mesh under these shapes, of so many entries."""
